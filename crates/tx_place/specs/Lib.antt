@@ -1,0 +1,5 @@
+pub mod Count
+pub mod Place
+pub mod Console
+pub mod Whole
+pub mod Memory
