@@ -1,0 +1,11 @@
+pub mod Cells
+pub mod Literals
+pub mod Deeds
+pub mod Files
+pub mod Forms
+pub mod Refusals
+pub mod Complaints
+pub mod Writes
+pub mod Records
+pub mod Rows
+pub mod Folds

@@ -1,0 +1,38 @@
+use Rattle.std.proofs.Common.{◌≡◌, ◌≤◌, ◌-◌, ℕ, List, [], ◌∷◌, length, take, drop, length-drop, suc, ◌∙◌, subst, inr, arith, Contains}
+use Rattle.std.proofs.lemmas.List.{take_all}
+use Rattle.tx_place.specs.Count.{Rose}
+use Rattle.tx_place.specs.Place.{PlaceState, Held, KeepsTelling, with_file}
+use Rattle.tuplex_run.specs.Deed.{names_of, written, IsWrittenPartly}
+use Rattle.tuplex_run.specs.Finish.{WriteRefusal}
+use Rattle.tuplex_run.specs.declared.outcome.Outcome.{Outcome}
+use Rattle.tuplex_run.specs.declared.outcome.Outcome.TheVariants.{Done, Words, NotThisForm, ReadFault, WriteFault, ConsoleFault, NoMemory}
+
+-- what is whole is written in part
+pub whole_is_part : (writes : List (List ℕ × List ℕ)) (old new : Held) → new ≡ written writes old → IsWrittenPartly writes old new
+whole_is_part [] old new e = e
+whole_is_part (write ∷ writes) old new e = inr (whole_is_part writes (with_file old write.0 write.1) new e)
+
+later : (n : List ℕ) (ns : List (List ℕ)) (name : List ℕ) → Contains ns name → Contains (n ∷ ns) name
+later n ns name h = (suc h.0, omega (arith, h.1), h.2)
+
+refused_behind : (writes : List (List ℕ × List ℕ)) (old mid new : PlaceState) → 1 ≤ length writes → KeepsTelling old mid → mid.write_faults ≡ old.write_faults → (o : Outcome) → WriteRefusal (names_of (drop 1 writes)) mid new o → WriteRefusal (names_of writes) old new o
+refused_behind [] old mid new le k same o h = absurd (omega arith)
+refused_behind (write ∷ writes) old mid new le k same (WriteFault name) h = (
+  later write.0 (names_of writes) name h.0,
+  subst (λ n. Rose n new.write_faults) same h.1,
+  λ t. h.2 (k.names_faults ∙ t),
+)
+refused_behind (write ∷ writes) old mid new le k same NoMemory h = h
+refused_behind (write ∷ writes) old mid new le k same (Done rows reported) h = absurd h
+refused_behind (write ∷ writes) old mid new le k same Words h = absurd h
+refused_behind (write ∷ writes) old mid new le k same NotThisForm h = absurd h
+refused_behind (write ∷ writes) old mid new le k same (ReadFault name) h = absurd h
+refused_behind (write ∷ writes) old mid new le k same ConsoleFault h = absurd h
+
+rest_is : (writes : List (List ℕ × List ℕ)) → take (length writes - 1) (drop 1 writes) ≡ drop 1 writes
+rest_is writes = take_all _ _ (omega (arith, length-drop 1 writes))
+
+-- a refusal behind the first file
+pub refused_later : (writes : List (List ℕ × List ℕ)) (old mid new : PlaceState) → 1 ≤ length writes → KeepsTelling old mid → mid.write_faults ≡ old.write_faults → (o : Outcome) → WriteRefusal (names_of (take (length writes - 1) (drop 1 writes))) mid new o → WriteRefusal (names_of writes) old new o
+refused_later writes old mid new le k same o h =
+    refused_behind writes old mid new le k same o (subst (λ ws. WriteRefusal (names_of ws) mid new o) (rest_is writes) h)

@@ -1,0 +1,17 @@
+pub mod Words
+pub mod Form
+pub mod Names
+pub mod Cell
+pub mod Table
+pub mod Answer
+pub mod Deed
+pub mod Partly
+pub mod Outside
+pub mod Due
+pub mod Ends
+pub mod Complaint
+pub mod Status
+pub mod Accept
+pub mod Refusals
+pub mod Finish
+pub mod Written

@@ -1,0 +1,40 @@
+// How a command ends.
+ghost use Rattle.std.specs.Prelude.{◌≡◌};
+ghost use Rattle.tuplex_run.specs.Status.{status_of};
+
+use tx_text::PyText;
+
+/// The outcome of a command. Each but `Done` and `ConsoleFault` is complained of, in one line.
+#[derive(Debug, Drop)]
+pub enum Outcome {
+    /// The output and the report are written. `rows` is the number of rows of the output without its header, and
+    /// `reported` that of the exceptions in the report.
+    Done { rows: u64, reported: u64 },
+    /// The words ask for no command.
+    Words,
+    /// The script has not the one form that is read, or its input is no table that this form runs on.
+    NotThisForm,
+    /// The script or the input of this name was not read.
+    ReadFault { name: PyText },
+    /// The output or the report of this name was not written.
+    WriteFault { name: PyText },
+    /// Memory was refused.
+    NoMemory,
+    /// The files are written, and the console line was not said.
+    ConsoleFault,
+}
+
+/// The status that the program ends with.
+pub fn status(outcome: &Outcome) -> u8
+    ensures { result ≡ status_of outcome.now }
+{
+    match outcome {
+        Outcome::Done { .. } => 0,
+        Outcome::Words => 2,
+        Outcome::ReadFault { .. } => 6,
+        Outcome::WriteFault { .. } => 7,
+        Outcome::NoMemory => 8,
+        Outcome::ConsoleFault => 9,
+        Outcome::NotThisForm => 10,
+    }
+}

@@ -1,0 +1,337 @@
+// Each call of the place and of the console failing in turn, on the first example.
+use super::{Faults, REPORT_NAME, Ran, SUMS, run_words_on};
+use crate::Outcome;
+use std::alloc::Global;
+use std::test::Fail;
+use tx_text::{Bytes, NoMemory};
+
+const INPUT: &[u8] = b"a,b\n1,2\n3,4\n";
+
+const OUTPUT: &[u8] = b"a,b,s\n1,2,3\n3,4,7\n";
+
+const LINE: &[u8] = b"rows 2 exceptions 0\n";
+
+fn run_failing(
+    alloc: Global,
+    place: &[u64],
+    console: &[u64],
+    most: usize,
+) -> Result<Ran, NoMemory> {
+    let faults = Faults {
+        place,
+        console,
+        most,
+    };
+    run_words_on(
+        alloc,
+        &["run", "s.txs"],
+        ("s.txs", SUMS),
+        ("in.csv", INPUT),
+        &faults,
+    )
+}
+
+fn name_of(outcome: &Outcome) -> &str {
+    match outcome {
+        Outcome::ReadFault { name } => name.as_str(),
+        Outcome::WriteFault { name } => name.as_str(),
+        _ => "",
+    }
+}
+
+/// A place's call that fails, and what stands then.
+#[derive(Clone, Copy)]
+struct Case<'a> {
+    call: u64,
+    status: u8,
+    name: &'a str,
+    complaint: &'a [u8],
+    output: Option<&'a [u8]>,
+    report: Option<&'a [u8]>,
+}
+
+const READ: &[u8] = b"tuplex: in.csv: read failed\n";
+
+const WRITE: &[u8] = b"tuplex: out.csv: write failed\n";
+
+const REPORT: &[u8] = b"tuplex: out.csv.exceptions.csv: write failed\n";
+
+// Reads of the script (two), of the input (two), then create and append of the output, and of the report.
+const CASES: [Case<'static>; 9] = [
+    Case {
+        call: 1,
+        status: 6,
+        name: "s.txs",
+        complaint: b"tuplex: s.txs: read failed\n",
+        output: None,
+        report: None,
+    },
+    Case {
+        call: 2,
+        status: 6,
+        name: "s.txs",
+        complaint: b"tuplex: s.txs: read failed\n",
+        output: None,
+        report: None,
+    },
+    Case {
+        call: 3,
+        status: 6,
+        name: "in.csv",
+        complaint: READ,
+        output: None,
+        report: None,
+    },
+    Case {
+        call: 4,
+        status: 6,
+        name: "in.csv",
+        complaint: READ,
+        output: None,
+        report: None,
+    },
+    Case {
+        call: 5,
+        status: 7,
+        name: "out.csv",
+        complaint: WRITE,
+        output: None,
+        report: None,
+    },
+    Case {
+        call: 6,
+        status: 7,
+        name: "out.csv",
+        complaint: WRITE,
+        output: Some(b"a,b,s\n1,2"),
+        report: None,
+    },
+    Case {
+        call: 7,
+        status: 7,
+        name: REPORT_NAME,
+        complaint: REPORT,
+        output: Some(OUTPUT),
+        report: None,
+    },
+    Case {
+        call: 8,
+        status: 7,
+        name: REPORT_NAME,
+        complaint: REPORT,
+        output: Some(OUTPUT),
+        report: Some(b"operator,kin"),
+    },
+    Case {
+        call: 9,
+        status: 0,
+        name: "",
+        complaint: b"",
+        output: Some(OUTPUT),
+        report: Some(b"operator,kind,class,row\n"),
+    },
+];
+
+#[test]
+fn each_failing_call_of_the_place(rt: HostRuntime) -> Result<(), Fail> {
+    let alloc = rt.alloc();
+    for case in &CASES {
+        let ran = run_failing(alloc, &[case.call], &[], 65_536)?;
+        assert_eq!(rt; ran.status(), case.status, "at {}", case.call);
+        assert_eq!(rt; name_of(&ran.outcome), case.name);
+        assert_eq!(rt; ran.console.complained(), case.complaint);
+        assert_eq!(rt; ran.left("out.csv", case.output), true);
+        assert_eq!(rt; ran.left(REPORT_NAME, case.report), true);
+        let said = if case.status == 0 {
+            LINE
+        } else {
+            b"".as_slice()
+        };
+        assert_eq!(rt; ran.console.said(), said);
+        assert_eq!(rt; ran.left("in.csv", Some(INPUT)), true);
+        assert_eq!(rt; ran.left("s.txs", Some(SUMS)), true);
+    }
+    Ok(())
+}
+
+// With reads of one byte the script is read in so many calls, and the input in so many.
+const SCRIPT_READS: u64 = 75;
+
+const INPUT_READS: u64 = 13;
+
+const READS: u64 = SCRIPT_READS + INPUT_READS;
+
+// What stands where this call fails.
+fn stands(ran: &Ran, call: u64) -> bool {
+    let (status, complaint) = if call <= SCRIPT_READS {
+        (6, b"tuplex: s.txs: read failed\n".as_slice())
+    } else if call <= READS {
+        (6, READ)
+    } else if call <= READS + 2 {
+        (7, WRITE)
+    } else {
+        (7, REPORT)
+    };
+    ran.status() == status
+        && ran.console.complained() == complaint
+        && ran.console.said().is_empty()
+        && ran.place.bytes_of("out.csv").is_some() == (call > READS + 1)
+        && ran.place.bytes_of(REPORT_NAME).is_some() == (call > READS + 3)
+        && ran.left("in.csv", Some(INPUT))
+}
+
+#[test]
+fn each_failing_call_at_reads_of_one_byte(rt: HostRuntime) -> Result<(), Fail> {
+    let alloc = rt.alloc();
+    for call in 1..=READS + 4 {
+        let ran = run_failing(alloc, &[call], &[], 1)?;
+        assert_eq!(rt; stands(&ran, call), true, "at {call}");
+    }
+    let done = run_failing(alloc, &[READS + 5], &[1], 1)?;
+    assert_eq!(rt; done.status(), 9);
+    assert_eq!(rt; done.wrote(OUTPUT), true);
+    assert_eq!(rt; done.console.said(), b"rows 2 exc".as_slice());
+    Ok(())
+}
+
+#[test]
+fn each_failing_call_of_the_console(rt: HostRuntime) -> Result<(), Fail> {
+    let alloc = rt.alloc();
+    let ran = run_failing(alloc, &[], &[1], 65_536)?;
+    assert_eq!(rt; ran.status(), 9);
+    assert_eq!(rt; ran.console.said(), b"rows 2 exc".as_slice());
+    assert_eq!(rt; ran.console.complained(), b"".as_slice());
+    assert_eq!(rt; ran.wrote(OUTPUT), true);
+    let complained = run_failing(alloc, &[1], &[1], 65_536)?;
+    assert_eq!(rt; complained.status(), 6);
+    assert_eq!(rt;
+        complained.console.complained(),
+        b"tuplex: s.txs".as_slice()
+    );
+    assert_eq!(rt; run_failing(alloc, &[], &[2], 65_536)?.status(), 0);
+    Ok(())
+}
+
+#[test]
+fn absent_files_are_read_faults(rt: HostRuntime) -> Result<(), Fail> {
+    let alloc = rt.alloc();
+    let faults = Faults {
+        place: &[],
+        console: &[],
+        most: 65_536,
+    };
+    let script = run_words_on(
+        alloc,
+        &["run", "s.txs"],
+        ("t", SUMS),
+        ("in.csv", INPUT),
+        &faults,
+    )?;
+    assert_eq!(rt; script.status(), 6);
+    assert_eq!(rt; name_of(&script.outcome), "s.txs");
+    let input = run_words_on(
+        alloc,
+        &["run", "s.txs"],
+        ("s.txs", SUMS),
+        ("in", INPUT),
+        &faults,
+    )?;
+    assert_eq!(rt; input.status(), 6);
+    assert_eq!(rt; name_of(&input.outcome), "in.csv");
+    assert_eq!(rt; input.wrote_nothing(), true);
+    Ok(())
+}
+
+#[test]
+fn a_refusal_complains_once(rt: HostRuntime) -> Result<(), Fail> {
+    let alloc = rt.alloc();
+    let faults = Faults {
+        place: &[6],
+        console: &[2],
+        most: 65_536,
+    };
+    let script = ("s.txs", SUMS);
+    let words = run_words_on(alloc, &["run"], script, ("in.csv", INPUT), &faults)?;
+    assert_eq!(rt; words.console.complained().ends_with(b"FILE\n"), true);
+    let form = run_words_on(
+        alloc,
+        &["run", "s.txs"],
+        script,
+        ("in.csv", b"x\n"),
+        &faults,
+    )?;
+    assert_eq!(rt;
+        form.console.complained(),
+        b"tuplex: not this form\n".as_slice()
+    );
+    let write = run_words_on(alloc, &["run", "s.txs"], script, ("in.csv", INPUT), &faults)?;
+    assert_eq!(rt; write.console.complained(), WRITE);
+    Ok(())
+}
+
+// A text, and so many letters behind it.
+fn long_field(alloc: Global, letters: usize, row: &[u8]) -> Result<Bytes, NoMemory> {
+    let mut all = Bytes::new(alloc);
+    all.push_all(row)?;
+    for _ in 0..letters {
+        all.push(b'x')?;
+    }
+    Ok(all)
+}
+
+#[test]
+fn files_are_appended_in_pieces(rt: HostRuntime) -> Result<(), Fail> {
+    let alloc = rt.alloc();
+    let input = long_field(alloc, 65_536, b"a,b,c\n1,2,")?;
+    // two reads of the script, three of the input, a create, and two appends, the second of which fails
+    let faults = Faults {
+        place: &[8],
+        console: &[],
+        most: 65_536,
+    };
+    let words = ["run", "s.txs"];
+    let ran = run_words_on(
+        alloc,
+        &words,
+        ("s.txs", SUMS),
+        ("in.csv", input.as_slice()),
+        &faults,
+    )?;
+    assert_eq!(rt; ran.status(), 7);
+    // the output has 65,551 bytes: 65,536 and half of the other 15
+    let front = long_field(alloc, 65_536 + 7 - 12, b"a,b,c,s\n1,2,")?;
+    assert_eq!(rt; ran.wrote(front.as_slice()), true);
+    Ok(())
+}
+
+// A refused allocation leaves the files as the contract says: each as before or a prefix, and the report as before
+// unless the output is whole.
+fn is_partly_written(ran: &Ran) -> bool {
+    let report = match ran.place.bytes_of(REPORT_NAME) {
+        Some(report) => b"operator,kind,class,row\n".starts_with(report),
+        None => true,
+    };
+    match ran.place.bytes_of("out.csv") {
+        Some(output) => OUTPUT.starts_with(output)
+            && report
+            && (output == OUTPUT || ran.left(REPORT_NAME, None)),
+        None => ran.left(REPORT_NAME, None),
+    }
+}
+
+/// `tests/allocations.sh` runs this with each allocation refused in turn.
+#[test]
+fn memory_may_be_refused(rt: HostRuntime) -> Result<(), Fail> {
+    let Ok(ran) = run_failing(rt.alloc(), &[], &[], 65_536) else {
+        return Ok(());
+    };
+    println!(rt; "status {}", ran.status())?;
+    if ran.status() == 8 {
+        assert_eq!(rt; is_partly_written(&ran), true);
+        assert_eq!(rt; LINE.starts_with(ran.console.said()), true);
+    } else {
+        assert_eq!(rt; ran.status(), 0);
+        assert_eq!(rt; ran.wrote(OUTPUT) && ran.console.said() == LINE, true);
+    }
+    Ok(())
+}

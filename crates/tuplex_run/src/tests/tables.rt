@@ -1,0 +1,155 @@
+// Whole files: the worked examples, and how records are read and written.
+use super::{REPORT_HEAD, REPORT_NAME, Ran, run_script, run_sums};
+use std::test::Fail;
+use tx_text::Bytes;
+
+fn is_written(ran: &Ran, output: &[u8], report: &[u8], line: &[u8]) -> bool {
+    ran.status() == 0
+        && ran.wrote(output)
+        && ran.left(REPORT_NAME, Some(report))
+        && ran.console.said() == line
+        && ran.console.complained().is_empty()
+}
+
+#[test]
+fn two_sums(rt: HostRuntime) -> Result<(), Fail> {
+    let ran = run_sums(rt.alloc(), b"a,b\n1,2\n3,4\n")?;
+    let done = is_written(
+        &ran,
+        b"a,b,s\n1,2,3\n3,4,7\n",
+        REPORT_HEAD,
+        b"rows 2 exceptions 0\n",
+    );
+    assert_eq!(rt; done, true);
+    Ok(())
+}
+
+#[test]
+fn text_and_missing_cells(rt: HostRuntime) -> Result<(), Fail> {
+    let ran = run_sums(rt.alloc(), b"a,b\n1,2\nx,4\n,5\nx,y\n")?;
+    let report =
+        b"operator,kind,class,row\n2,withColumn,TypeError,1:2\n2,withColumn,TypeError,1:3\n";
+    let done = is_written(
+        &ran,
+        b"a,b,s\n1,2,3\nx,y,xy\n",
+        report,
+        b"rows 2 exceptions 2\n",
+    );
+    assert_eq!(rt; done, true);
+    Ok(())
+}
+
+#[test]
+fn integer_bound(rt: HostRuntime) -> Result<(), Fail> {
+    let input =
+        b"a,b\n170141183460469231731687303715884105727,1\n170141183460469231731687303715884105728,1\n";
+    let report =
+        b"operator,kind,class,row\n2,withColumn,OverflowError,1:1\n2,withColumn,TypeError,1:2\n";
+    let ran = run_sums(rt.alloc(), input)?;
+    assert_eq!(rt;
+        is_written(&ran, b"a,b,s\n", report, b"rows 0 exceptions 2\n"),
+        true
+    );
+    Ok(())
+}
+
+#[test]
+fn the_new_column_replaces_or_is_appended(rt: HostRuntime) -> Result<(), Fail> {
+    let alloc = rt.alloc();
+    for (script, input, output) in [
+        (
+            b"csv(\"in.csv\").withColumn(\"a\", lambda x: x[\"a\"] + x[\"b\"]).tocsv(\"out.csv\")".as_slice(),
+            b"a,b\n1,2\n".as_slice(),
+            b"a,b\n3,2\n".as_slice(),
+        ),
+        (
+            b"csv(\"in.csv\").withColumn(\"c\", lambda x: x[\"a\"] + x[\"b\"]).tocsv(\"out.csv\")",
+            b"a,c,b\n1,z,2\n",
+            b"a,c,b\n1,3,2\n",
+        ),
+        (
+            b"csv(\"in.csv\").withColumn(\"a\", lambda x: x[\"a\"] + x[\"b\"]).tocsv(\"out.csv\")",
+            b"a,b,a\n1,2,9\n",
+            b"a,b,a\n3,2,9\n",
+        ),
+        (
+            b"csv(\"in.csv\").withColumn(\"s\", lambda x: x[\"a\"] + x[\"a\"]).tocsv(\"out.csv\")",
+            b"a,b\n1,2\n",
+            b"a,b,s\n1,2,2\n",
+        ),
+        (
+            b"csv(\"in.csv\").withColumn(\"s\", lambda x: x[\"b\"] + x[\"a\"]).tocsv(\"out.csv\")",
+            b"a,b\nx,y\n",
+            b"a,b,s\nx,y,yx\n",
+        ),
+    ] {
+        let ran = run_script(alloc, script, input)?;
+        assert_eq!(rt; ran.status(), 0);
+        assert_eq!(rt; ran.wrote(output), true);
+    }
+    Ok(())
+}
+
+#[test]
+fn records_are_those_of_csv(rt: HostRuntime) -> Result<(), Fail> {
+    let alloc = rt.alloc();
+    for (input, output) in [
+        (b"a,b\r\n1,2\r\n".as_slice(), b"a,b,s\n1,2,3\n".as_slice()),
+        (b"a,b\n\n1,2\n\n", b"a,b,s\n1,2,3\n"),
+        (b"\xef\xbb\xbfa,b\n1,2\n", b"a,b,s\n1,2,3\n"),
+        (b"a,b\n1,2", b"a,b,s\n1,2,3\n"),
+        (b"a,b\n", b"a,b,s\n"),
+        (b"a,b", b"a,b,s\n"),
+        (
+            b"a,b,c\n1,2,\"q\"\"u,o\nte\"\n",
+            b"a,b,c,s\n1,2,\"q\"\"u,o\nte\",3\n",
+        ),
+        (b"a,b,c\n1,2,007\n1,2,\n", b"a,b,c,s\n1,2,007,3\n1,2,,3\n"),
+    ] {
+        let ran = run_sums(alloc, input)?;
+        assert_eq!(rt; ran.status(), 0);
+        assert_eq!(rt; ran.wrote(output), true);
+        assert_eq!(rt; ran.left(REPORT_NAME, Some(REPORT_HEAD)), true);
+    }
+    Ok(())
+}
+
+// Nothing was written or said, and the refusal was complained of.
+fn is_refused(ran: &Ran) -> bool {
+    ran.status() == 10
+        && ran.wrote_nothing()
+        && ran.console.said().is_empty()
+        && ran.console.complained() == b"tuplex: not this form\n".as_slice()
+}
+
+#[test]
+fn files_that_are_no_table_are_refused(rt: HostRuntime) -> Result<(), Fail> {
+    let alloc = rt.alloc();
+    for input in [
+        b"".as_slice(),
+        b"\n\n",
+        b"a,b\n1\n",
+        b"a,b\n1,2\n1,2,3\n",
+        b"a,b,c\n1,2,\xff\n3,4,5\n",
+        b"\xef\xbb\xbf\xef\xbb\xbfa,b\n1,2\n",
+        b"a,z\n1,2\n",
+        b"z,b\n1,2\n",
+    ] {
+        assert_eq!(rt; is_refused(&run_sums(alloc, input)?), true);
+    }
+    Ok(())
+}
+
+#[test]
+fn a_field_has_at_most_65536_bytes(rt: HostRuntime) -> Result<(), Fail> {
+    let alloc = rt.alloc();
+    let mut input = Bytes::new(alloc);
+    input.push_all(b"a,b,c\n1,2,")?;
+    for _ in 0..65_536 {
+        input.push(b'x')?;
+    }
+    assert_eq!(rt; run_sums(alloc, input.as_slice())?.status(), 0);
+    input.push(b'x')?;
+    assert_eq!(rt; is_refused(&run_sums(alloc, input.as_slice())?), true);
+    Ok(())
+}

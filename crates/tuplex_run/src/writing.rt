@@ -1,0 +1,126 @@
+// Writing the files, and saying the line.
+ghost use Rattle.std.specs.Prelude.{◌≡◌, ◌∷◌, [], true, OnOk, OnErr, IfErr};
+ghost use Rattle.std.specs.Str.{chars};
+ghost use mathlib.Core.Logic.{inr};
+ghost use Rattle.tx_place.specs.Count.{CountsFault};
+ghost use Rattle.tx_place.specs.Place.{KeepsTelling, NamesFault, with_file};
+ghost use Rattle.tuplex_run.specs.Partly.{IsPartly};
+ghost use Rattle.tuplex_run.specs.Accept.{deed_of};
+ghost use Rattle.tuplex_run.specs.Deed.{names_of, written, IsWrittenPartly};
+ghost use Rattle.tuplex_run.specs.Ends.{Stands, SaidOf};
+ghost use Rattle.tuplex_run.specs.Finish.{WriteRefusal, FinishCause, OnlySays};
+
+use crate::Outcome;
+use crate::accept::Accepted;
+use std::alloc::Global;
+use tx_place::{CallError, Console, Place};
+use tx_text::{Bytes, PyText};
+
+/// The most bytes of one append.
+const PIECE: usize = 65_536;
+
+/// Creates the file and appends all the bytes to it.
+pub(crate) fn write_file<P: Place>(place: &mut P, name: &str, bytes: &[u8]) -> Result<(), CallError>
+    ensures telling { KeepsTelling (P.state place.old) (P.state place.new) }
+    ensures reads { (P.state place.new).read_faults ≡ (P.state place.old).read_faults }
+    ensures writes { CountsFault result (P.state place.old).write_faults (P.state place.new).write_faults }
+    ensures named { (P.state place.old).names_faults ≡ true
+        → NamesFault result (chars name.now) (P.state place.old).failed (P.state place.new).failed }
+    ensures held { (P.state place.old).tells ≡ true
+        → OnOk result ((P.state place.new).held ≡ with_file (P.state place.old).held (chars name.now) bytes.now) }
+    ensures refused { (P.state place.old).tells ≡ true
+        → OnErr result (IsPartly (P.state place.old).held (chars name.now) bytes.now (P.state place.new).held) }
+{
+    place.create(name)?;
+    let mut at = 0;
+    while at < bytes.len() {
+        let left = bytes.len() - at;
+        let end = if left > PIECE {
+            at + PIECE
+        } else {
+            bytes.len()
+        };
+        place.append(name, &bytes[at..end])?;
+        at = end;
+    }
+    Ok(())
+}
+
+fn write_named<P: Place>(
+    alloc: Global,
+    place: &mut P,
+    name: &PyText,
+    bytes: &[u8],
+) -> Result<(), Outcome>
+    ensures telling { KeepsTelling (P.state place.old) (P.state place.new) }
+    ensures reads { (P.state place.new).read_faults ≡ (P.state place.old).read_faults }
+    ensures writes { OnOk result ((P.state place.new).write_faults ≡ (P.state place.old).write_faults) }
+    ensures held { (P.state place.old).tells ≡ true
+        → OnOk result ((P.state place.new).held ≡ with_file (P.state place.old).held name.now bytes.now) }
+    ensures refused { IfErr result (WriteRefusal (name.now ∷ []) (P.state place.old) (P.state place.new)) }
+    ensures partly { (P.state place.old).tells ≡ true
+        → OnErr result (IsPartly (P.state place.old).held name.now bytes.now (P.state place.new).held) }
+{
+    match write_file(place, name.as_str(), bytes) {
+        Ok(()) => Ok(()),
+        Err(CallError::NoMemory) => Err(Outcome::NoMemory),
+        Err(CallError::Failed) => match PyText::from_str(alloc, name.as_str()) {
+            Ok(name) => Err(Outcome::WriteFault { name }),
+            Err(_) => Err(Outcome::NoMemory),
+        },
+    }
+}
+
+/// Writes the files in their order.
+fn write_all<P: Place>(
+    alloc: Global,
+    place: &mut P,
+    writes: &[(PyText, Bytes)],
+) -> Result<(), Outcome>
+    ensures telling { KeepsTelling (P.state place.old) (P.state place.new) }
+    ensures reads { (P.state place.new).read_faults ≡ (P.state place.old).read_faults }
+    ensures writes { OnOk result ((P.state place.new).write_faults ≡ (P.state place.old).write_faults) }
+    ensures held { (P.state place.old).tells ≡ true
+        → OnOk result ((P.state place.new).held ≡ written writes.now (P.state place.old).held) }
+    ensures refused { IfErr result (WriteRefusal (names_of writes.now) (P.state place.old) (P.state place.new)) }
+    ensures partly { (P.state place.old).tells ≡ true
+        → OnErr result (IsWrittenPartly writes.now (P.state place.old).held (P.state place.new).held) }
+{
+    match writes {
+        [] => Ok(()),
+        [first, rest @ ..] => {
+            write_named(alloc, place, &first.0, first.1.as_slice())?;
+            write_all(alloc, place, rest)
+        }
+    }
+}
+
+/// Writes the files, and says the line.
+pub(crate) fn finish<P: Place, C: Console>(
+    alloc: Global,
+    place: &mut P,
+    console: &mut C,
+    run: &Accepted,
+) -> Outcome
+    ensures telling { KeepsTelling (P.state place.old) (P.state place.new) }
+    ensures reads { (P.state place.new).read_faults ≡ (P.state place.old).read_faults }
+    ensures cause { FinishCause (deed_of run.now) (P.state place.old) (P.state place.new)
+        (C.state console.old) (C.state console.new) result }
+    ensures stands { (P.state place.old).tells ≡ true
+        → Stands (inr (deed_of run.now)) (P.state place.old).held (P.state place.new).held result }
+    ensures console { OnlySays (C.state console.old) (C.state console.new) }
+    ensures said { (C.state console.old).tells ≡ true
+        → SaidOf (Unit {0}) run.now.line (C.state console.old) (C.state console.new) result }
+{
+    if let Err(refusal) = write_all(alloc, place, run.writes.as_slice()) {
+        return refusal;
+    }
+    match console.say(run.line.as_slice()) {
+        Ok(()) => Outcome::Done {
+            rows: run.rows,
+            reported: run.reported,
+        },
+        Err(CallError::Failed) => Outcome::ConsoleFault,
+        Err(CallError::NoMemory) => Outcome::NoMemory,
+    }
+}
