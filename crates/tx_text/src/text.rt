@@ -1,8 +1,10 @@
 // A text, kept as UTF-8 and seen as its code points.
 ghost use Rattle.std.specs.Prelude.{◌≡◌, ◌↔◌, [], ◌∷◌, ◌++◌, length, OnOk, OnErr, IfOk, IsErrOf, IsUtf8, IsTrue, encode_utf8_all, slice_get};
 ghost use Rattle.std.specs.Str.{chars};
+ghost use Rattle.tx_text.specs.Text.{part_of, less, first_place, last_place, count_of};
 
-use crate::NoMemory;
+use crate::points::{self, char_count};
+use crate::{NoMemory, search};
 use std::alloc::Global;
 use std::convert::AsStr;
 use std::marker::Model;
@@ -17,38 +19,48 @@ pub enum Utf8Fault {
     NoMemory,
 }
 
-/// A text, seen as the list of its code points.
+/// A text, seen as the list of its code points. It knows how many it has, so that `len` takes no time, and where each
+/// is one byte neither do `char_at` and `slice`.
 #[derive(Debug, Drop)]
 pub struct PyText {
     text: String,
+    count: usize,
 }
 
 impl Model for PyText {
-    ghost use Rattle.std.specs.Prelude.{List, ℕ, string_bytes};
+    ghost use Rattle.std.specs.Prelude.{◌≡◌, List, ℕ, length, string_bytes};
     ghost use Rattle.std.specs.Str.{chars};
 
     ghost Value = { List ℕ };
 
     ghost view = { λ t. chars (string_bytes t.text) };
+
+    ghost invariant = { λ t. t.count ≡ length (chars (string_bytes t.text)) };
 }
 
 impl PyText {
+    /// The empty text, which takes no memory yet.
     pub fn new(alloc: Global) -> Self
         ensures { result ≡ [] }
     {
         PyText {
             text: String::new(alloc),
+            count: 0,
         }
     }
 
+    /// The text of a Rust string.
     pub fn from_str(alloc: Global, s: &str) -> Result<PyText, NoMemory>
         ensures { IfOk result (λ t. t ≡ chars s.now) }
     {
+        let text = String::from_str(alloc, s)?;
         Ok(PyText {
-            text: String::from_str(alloc, s)?,
+            text,
+            count: char_count(s),
         })
     }
 
+    /// The text that bytes spell in UTF-8, as Python's `bytes.decode`.
     pub fn from_utf8(alloc: Global, b: &[u8]) -> Result<PyText, Utf8Fault>
         ensures ok { IfOk result (λ t. t ≡ chars b.now) }
         ensures utf8 { OnOk result (IsUtf8 b.now) }
@@ -58,11 +70,15 @@ impl PyText {
             return Err(Utf8Fault::NotUtf8);
         };
         match String::from_str(alloc, s) {
-            Ok(text) => Ok(PyText { text }),
+            Ok(text) => Ok(PyText {
+                text,
+                count: char_count(s),
+            }),
             Err(_) => Err(Utf8Fault::NoMemory),
         }
     }
 
+    /// The text for Rust's own string functions, as UTF-8.
     pub fn as_str(&self) -> &str
         ensures bytes { result.now ≡ encode_utf8_all self.now }
         ensures chars { chars result.now ≡ self.now }
@@ -70,38 +86,92 @@ impl PyText {
         self.text.as_str()
     }
 
+    /// Adds a character at the end. Where memory is refused, the text is as before.
     pub fn push(&mut self, item: char) -> Result<(), NoMemory>
         ensures ok { OnOk result (self.new ≡ self.old ++ item ∷ []) }
         ensures err { OnErr result (self.new ≡ self.old) }
     {
         self.text.push(item)?;
+        self.count += 1;
         Ok(())
     }
 
-    /// Adds the characters of a text at the end.
+    /// Adds the characters of a text at the end, or none where memory is refused.
     pub fn push_str(&mut self, more: &str) -> Result<(), NoMemory>
         ensures ok { OnOk result (self.new ≡ self.old ++ chars more.now) }
         ensures err { OnErr result (self.new ≡ self.old) }
     {
         self.text.push_str(more)?;
+        self.count += char_count(more);
         Ok(())
     }
 
+    /// How many characters the text has, as Python's `len`: of `"aß€"` three. No bytes are read.
     pub fn len(&self) -> usize
         ensures { result ≡ length self.now }
     {
-        self.text.chars().count()
+        self.count
     }
 
+    /// The character at a place, as Python's `text[at]` for a place from the front: of `"aß€"` at 1 it is `'ß'`.
     pub fn char_at(&self, at: usize) -> Option<char>
         ensures { result ≡ slice_get self.now at }
     {
-        self.text.chars().nth(at)
+        points::char_at(self.text.as_str(), self.count, at)
     }
 
+    /// The characters from a place to before another, as Python's `text[from:to]` for places from the front: of
+    /// `"aß€"` from 1 to 9 it is `"ß€"`.
+    pub fn slice(&self, from: usize, to: usize) -> Result<PyText, NoMemory>
+        ensures { IfOk result (λ t. t ≡ part_of from to self.now) }
+    {
+        let end = to.min(self.count);
+        let start = from.min(end);
+        let part = points::text_between(self.text.as_str(), self.count, start, end);
+        let text = String::from_str(*self.text.allocator(), part)?;
+        Ok(PyText {
+            text,
+            count: end - start,
+        })
+    }
+
+    /// Whether two texts have the same characters, as Python's `==`.
     pub fn equal(&self, b: &PyText) -> bool
         ensures { IsTrue result ↔ (self.now ≡ b.now) }
     {
         self.text.as_str() == b.text.as_str()
+    }
+
+    /// Whether this text comes before another, as Python's `<`: `"a"` comes before `"ab"` and before `"é"`.
+    pub fn less(&self, b: &PyText) -> bool
+        ensures { result ≡ less self.now b.now }
+    {
+        points::comes_before(self.text.as_str(), b.text.as_str())
+    }
+
+    /// The first place where a part stands, as Python's `str.find`: of `"b"` in `"abab"` it is 1.
+    pub fn find(&self, part: &PyText) -> Option<usize>
+        ensures { result ≡ first_place part.now self.now }
+    {
+        search::find_first(self.text.as_str(), self.count, part.text.as_str())
+    }
+
+    /// The last place where a part stands, as Python's `str.rfind`: of `"b"` in `"abab"` it is 3.
+    pub fn rfind(&self, part: &PyText) -> Option<usize>
+        ensures { result ≡ last_place part.now self.now }
+    {
+        search::find_last(self.text.as_str(), self.count, part.text.as_str())
+    }
+
+    /// How often a part stands in the text without overlaps, as Python's `str.count`: of `"aa"` in `"aaaaa"` twice.
+    pub fn count(&self, part: &PyText) -> usize
+        ensures { result ≡ count_of part.now self.now }
+    {
+        search::count_parts(self.text.as_str(), self.count, part.text.as_str())
+    }
+
+    // The allocator that the text keeps.
+    pub(crate) fn allocator(&self) -> Global {
+        *self.text.allocator()
     }
 }

@@ -53,36 +53,45 @@ fn integer_bound(rt: HostRuntime) -> Result<(), Fail> {
     Ok(())
 }
 
-#[test]
-fn the_new_column_replaces_or_is_appended(rt: HostRuntime) -> Result<(), Fail> {
-    let alloc = rt.alloc();
-    for (script, input, output) in [
-        (
+// Scripts, inputs and outputs.
+fn column_case(at: usize) -> Option<(&'static [u8], &'static [u8], &'static [u8])> {
+    Some(match at {
+        0 => (
             b"csv(\"in.csv\").withColumn(\"a\", lambda x: x[\"a\"] + x[\"b\"]).tocsv(\"out.csv\")".as_slice(),
             b"a,b\n1,2\n".as_slice(),
             b"a,b\n3,2\n".as_slice(),
         ),
-        (
-            b"csv(\"in.csv\").withColumn(\"c\", lambda x: x[\"a\"] + x[\"b\"]).tocsv(\"out.csv\")",
-            b"a,c,b\n1,z,2\n",
-            b"a,c,b\n1,3,2\n",
+        1 => (
+            b"csv(\"in.csv\").withColumn(\"c\", lambda x: x[\"a\"] + x[\"b\"]).tocsv(\"out.csv\")".as_slice(),
+            b"a,c,b\n1,z,2\n".as_slice(),
+            b"a,c,b\n1,3,2\n".as_slice(),
         ),
-        (
-            b"csv(\"in.csv\").withColumn(\"a\", lambda x: x[\"a\"] + x[\"b\"]).tocsv(\"out.csv\")",
-            b"a,b,a\n1,2,9\n",
-            b"a,b,a\n3,2,9\n",
+        2 => (
+            b"csv(\"in.csv\").withColumn(\"a\", lambda x: x[\"a\"] + x[\"b\"]).tocsv(\"out.csv\")".as_slice(),
+            b"a,b,a\n1,2,9\n".as_slice(),
+            b"a,b,a\n3,2,9\n".as_slice(),
         ),
-        (
-            b"csv(\"in.csv\").withColumn(\"s\", lambda x: x[\"a\"] + x[\"a\"]).tocsv(\"out.csv\")",
-            b"a,b\n1,2\n",
-            b"a,b,s\n1,2,2\n",
+        3 => (
+            b"csv(\"in.csv\").withColumn(\"s\", lambda x: x[\"a\"] + x[\"a\"]).tocsv(\"out.csv\")".as_slice(),
+            b"a,b\n1,2\n".as_slice(),
+            b"a,b,s\n1,2,2\n".as_slice(),
         ),
-        (
-            b"csv(\"in.csv\").withColumn(\"s\", lambda x: x[\"b\"] + x[\"a\"]).tocsv(\"out.csv\")",
-            b"a,b\nx,y\n",
-            b"a,b,s\nx,y,yx\n",
+        4 => (
+            b"csv(\"in.csv\").withColumn(\"s\", lambda x: x[\"b\"] + x[\"a\"]).tocsv(\"out.csv\")".as_slice(),
+            b"a,b\nx,y\n".as_slice(),
+            b"a,b,s\nx,y,yx\n".as_slice(),
         ),
-    ] {
+        _ => return None,
+    })
+}
+
+#[test]
+fn the_new_column_replaces_or_is_appended(rt: HostRuntime) -> Result<(), Fail> {
+    let alloc = rt.alloc();
+    for at in 0..usize::MAX {
+        let Some((script, input, output)) = column_case(at) else {
+            break;
+        };
         let ran = run_script(alloc, script, input)?;
         assert_eq!(rt; ran.status(), 0);
         assert_eq!(rt; ran.wrote(output), true);
@@ -90,22 +99,37 @@ fn the_new_column_replaces_or_is_appended(rt: HostRuntime) -> Result<(), Fail> {
     Ok(())
 }
 
+// Inputs and outputs.
+fn record_case(at: usize) -> Option<(&'static [u8], &'static [u8])> {
+    Some(match at {
+        0 => (b"a,b\r\n1,2\r\n".as_slice(), b"a,b,s\n1,2,3\n".as_slice()),
+        1 => (b"a,b\n\n1,2\n\n".as_slice(), b"a,b,s\n1,2,3\n".as_slice()),
+        2 => (
+            b"\xef\xbb\xbfa,b\n1,2\n".as_slice(),
+            b"a,b,s\n1,2,3\n".as_slice(),
+        ),
+        3 => (b"a,b\n1,2".as_slice(), b"a,b,s\n1,2,3\n".as_slice()),
+        4 => (b"a,b\n".as_slice(), b"a,b,s\n".as_slice()),
+        5 => (b"a,b".as_slice(), b"a,b,s\n".as_slice()),
+        6 => (
+            b"a,b,c\n1,2,\"q\"\"u,o\nte\"\n".as_slice(),
+            b"a,b,c,s\n1,2,\"q\"\"u,o\nte\",3\n".as_slice(),
+        ),
+        7 => (
+            b"a,b,c\n1,2,007\n1,2,\n".as_slice(),
+            b"a,b,c,s\n1,2,007,3\n1,2,,3\n".as_slice(),
+        ),
+        _ => return None,
+    })
+}
+
 #[test]
 fn records_are_those_of_csv(rt: HostRuntime) -> Result<(), Fail> {
     let alloc = rt.alloc();
-    for (input, output) in [
-        (b"a,b\r\n1,2\r\n".as_slice(), b"a,b,s\n1,2,3\n".as_slice()),
-        (b"a,b\n\n1,2\n\n", b"a,b,s\n1,2,3\n"),
-        (b"\xef\xbb\xbfa,b\n1,2\n", b"a,b,s\n1,2,3\n"),
-        (b"a,b\n1,2", b"a,b,s\n1,2,3\n"),
-        (b"a,b\n", b"a,b,s\n"),
-        (b"a,b", b"a,b,s\n"),
-        (
-            b"a,b,c\n1,2,\"q\"\"u,o\nte\"\n",
-            b"a,b,c,s\n1,2,\"q\"\"u,o\nte\",3\n",
-        ),
-        (b"a,b,c\n1,2,007\n1,2,\n", b"a,b,c,s\n1,2,007,3\n1,2,,3\n"),
-    ] {
+    for at in 0..usize::MAX {
+        let Some((input, output)) = record_case(at) else {
+            break;
+        };
         let ran = run_sums(alloc, input)?;
         assert_eq!(rt; ran.status(), 0);
         assert_eq!(rt; ran.wrote(output), true);
@@ -122,19 +146,28 @@ fn is_refused(ran: &Ran) -> bool {
         && ran.console.complained() == b"tuplex: not this form\n".as_slice()
 }
 
+// Inputs that are no table of the form.
+fn no_table(at: usize) -> Option<&'static [u8]> {
+    Some(match at {
+        0 => b"".as_slice(),
+        1 => b"\n\n".as_slice(),
+        2 => b"a,b\n1\n".as_slice(),
+        3 => b"a,b\n1,2\n1,2,3\n".as_slice(),
+        4 => b"a,b,c\n1,2,\xff\n3,4,5\n".as_slice(),
+        5 => b"\xef\xbb\xbf\xef\xbb\xbfa,b\n1,2\n".as_slice(),
+        6 => b"a,z\n1,2\n".as_slice(),
+        7 => b"z,b\n1,2\n".as_slice(),
+        _ => return None,
+    })
+}
+
 #[test]
 fn files_that_are_no_table_are_refused(rt: HostRuntime) -> Result<(), Fail> {
     let alloc = rt.alloc();
-    for input in [
-        b"".as_slice(),
-        b"\n\n",
-        b"a,b\n1\n",
-        b"a,b\n1,2\n1,2,3\n",
-        b"a,b,c\n1,2,\xff\n3,4,5\n",
-        b"\xef\xbb\xbf\xef\xbb\xbfa,b\n1,2\n",
-        b"a,z\n1,2\n",
-        b"z,b\n1,2\n",
-    ] {
+    for at in 0..usize::MAX {
+        let Some(input) = no_table(at) else {
+            break;
+        };
         assert_eq!(rt; is_refused(&run_sums(alloc, input)?), true);
     }
     Ok(())
