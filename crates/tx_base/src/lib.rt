@@ -5,7 +5,7 @@ mod class;
 mod meter;
 mod steps;
 
-pub use class::{Class, class_name};
+pub use class::{Class, catches, class_name, class_named, classes_are_a_tree};
 pub use meter::Meter;
 pub use steps::{Steps, step};
 

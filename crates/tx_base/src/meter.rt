@@ -1,7 +1,7 @@
 // What was evaluated, as numbers.
 ghost use Rattle.std.specs.Prelude.{◌≡◌};
 
-/// How many functions were interpreted, and how many runs of typed code were made. A count at 2^64 - 1 stays there.
+/// How many functions were interpreted, and how many runs of typed code were made.
 #[derive(Clone, Copy, Debug, PartialEq, Eq)]
 pub struct Meter {
     pub interp: u64,
