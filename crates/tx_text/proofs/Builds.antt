@@ -1,10 +1,12 @@
 -- What texts made of other texts are, and how long they are.
-use Rattle.std.proofs.Common.{◌≡◌, ◌≢◌, ◌↔◌, ◌∙◌, ◌+◌, ◌-◌, ◌*◌, ◌<◌, ◌≤◌, ℕ, zero, suc, Bool, true, false, List, [], ◌∷◌, ◌++◌, None, if◌then◌else◌, length, take, drop, get_or, replicate, sym, refl, ap, arith, append_assoc, append-nil, add-one, suc-mul, zero-mul, length-append, lt_of_not-le}
+use Rattle.std.proofs.Common.{◌≡◌, ◌≢◌, ◌↔◌, ◌∙◌, ◌+◌, ◌-◌, ◌*◌, ◌<◌, ◌≤◌, ℕ, zero, suc, Bool, true, false, List, [], ◌∷◌, ◌++◌, None, if◌then◌else◌, length, take, drop, get_or, replicate, sym, refl, ap, arith, append_assoc, append-nil, add-one, suc-mul, zero-mul, ◌/◌, ◌%◌, length-append, lt_of_not-le}
 use Rattle.std.proofs.lemmas.Bool.{iff_false}
-use Rattle.std.proofs.lemmas.List.{length-replicate, nil_from_length, take_rest}
+use Rattle.std.proofs.lemmas.List.{length-replicate, nil_from_length, replicate-append-replicate, take-replicate, take_rest}
+use Rattle.std.proofs.lemmas.Nat.{div-add-mod', le-div}
+use Rattle.std.proofs.Math.Nat.{mod-lt, mul-le-mul}
 use Rattle.std.specs.Str.{chars}
 use Rattle.std.proofs.lemmas.Str.{chars-nil}
-use Rattle.tx_text.specs.Text.{between, first_place, is_sign, joined, pieces, repeated, replaced, zeros_behind}
+use Rattle.tx_text.specs.Text.{between, first_place, is_sign, joined, part_of, pieces, repeated, replaced, zeros_behind}
 use Rattle.tx_text.specs.Laws.{IsFirstSplit}
 use Rattle.tx_text.proofs.Pieces.{joined-cons, joined-pieces, pieces_cut, pieces_from-some, pieces_uncut}
 
@@ -22,8 +24,9 @@ repeated_more : (n : ℕ) (text : List ℕ) → repeated n text ++ text ≡ repe
 repeated_more zero text = sym (append-nil text)
 repeated_more (suc n) text = append_assoc text (repeated n text) text ∙ ap (λ t. text ++ t) (repeated_more n text)
 
-pub repeated_step : (i : ℕ) (text made next : List ℕ) → made ≡ repeated i text → next ≡ made ++ text → next ≡ repeated (i + 1) text
-repeated_step i text made next m n = n ∙ (rw (m, add-one i) (repeated_more i text))
+pub copies_step : (i : ℕ) (text before made next : List ℕ) → made ≡ before ++ repeated i text → next ≡ made ++ text → next ≡ before ++ repeated (i + 1) text
+copies_step i text before made next m n =
+    n ∙ (ap (λ t. t ++ text) m ∙ (append_assoc before (repeated i text) text ∙ (rw (add-one i) (ap (λ t. before ++ t) (repeated_more i text)))))
 
 pub repeated-nil : (n : ℕ) → repeated n [] ≡ []
 repeated-nil zero = refl
@@ -37,14 +40,6 @@ length-repeated (suc n) text =
 
 pub repeated_empty : (n : ℕ) (text : List ℕ) → length text ≡ 0 → [] ≡ repeated n (chars text)
 repeated_empty n text e = rw (nil_from_length text e, chars-nil) (sym (repeated-nil n))
-
-repeated-zero : (n : ℕ) → repeated n (48 ∷ []) ≡ replicate n 48
-repeated-zero zero = refl
-repeated-zero (suc n) = ap (λ t. 48 ∷ t) (repeated-zero n)
-
-pub zeros_are : (n : ℕ) → repeated n (chars (48 ∷ [])) ≡ replicate n 48
-unfolding chars
-zeros_are n = repeated-zero n
 
 -- ---- chains
 
@@ -88,10 +83,39 @@ pub length-zeros_behind : (n : ℕ) (text : List ℕ) → n + length text ≡ le
 length-zeros_behind n [] = omega (arith, length-replicate {A = ℕ} n 48)
 length-zeros_behind n (c ∷ text) = zeros_step n c text (is_sign c)
 
-pub zeros_built : (n sign : ℕ) (digits behind text made one two three : List ℕ) → digits ≡ replicate n 48
-    → zeros_behind n text ≡ sign ∷ (replicate n 48 ++ behind)
-    → made ≡ [] → one ≡ made ++ sign ∷ [] → two ≡ one ++ digits → three ≡ two ++ behind → three ≡ zeros_behind n text
-zeros_built n sign digits behind text made one two three d whole m o t r = rw (whole, r, t, o, m, d) refl
+repeated-zeros : (n m : ℕ) → repeated n (replicate m 48) ≡ replicate (n * m) 48
+repeated-zeros zero m = rw (zero-mul m) refl
+repeated-zeros (suc n) m =
+    let e : m + n * m ≡ suc n * m = omega (arith, suc-mul n m) in
+    ap (λ t. replicate m 48 ++ t) (repeated-zeros n m) ∙ (replicate-append-replicate m (n * m) 48 ∙ ap (λ k. replicate k 48) e)
+
+pub zeros_long : (zeros : List ℕ) → chars zeros ≡ replicate 64 48 → 64 ≡ length (chars zeros)
+zeros_long zeros e = sym (ap length e ∙ length-replicate {A = ℕ} 64 48)
+
+part_front : (k : ℕ) (text : List ℕ) → part_of 0 k text ≡ take k text
+part_front k text =
+    let e : k - 0 ≡ k = omega arith in
+    ap (λ m. take m text) e
+
+-- so many zeros, sixty-four at a time and then the rest
+pub zeros_are : (n : ℕ) (zeros again before part once next : List ℕ) → chars zeros ≡ replicate 64 48 → chars again ≡ replicate 64 48
+    → once ≡ before ++ repeated (n / 64) (chars zeros) → chars part ≡ part_of 0 (n % 64) (chars again) → next ≡ once ++ chars part → next ≡ before ++ replicate n 48
+zeros_are n zeros again before part once next z a o p x =
+    let small : n % 64 < 64 = mod-lt n {m = 64} (omega arith) in
+    let low : n % 64 ≤ 64 = omega (arith, small) in
+    let rest : part_of 0 (n % 64) (chars again) ≡ replicate (n % 64) 48 = part_front (n % 64) (chars again) ∙ (ap (λ t. take (n % 64) t) a ∙ take-replicate (n % 64) 64 48 low) in
+    let all : repeated (n / 64) (chars zeros) ≡ replicate (n / 64 * 64) 48 = ap (repeated (n / 64)) z ∙ repeated-zeros (n / 64) 64 in
+    let whole : replicate (n / 64 * 64) 48 ++ replicate (n % 64) 48 ≡ replicate n 48 =
+    replicate-append-replicate (n / 64 * 64) (n % 64) 48 ∙ ap (λ k. replicate k 48) (div-add-mod' n 64) in
+    x ∙ (rw (o, p, rest, all) (append_assoc before (replicate (n / 64 * 64) 48) (replicate (n % 64) 48) ∙ ap (λ t. before ++ t) whole))
+
+pub zeros_front : (n : ℕ) (text empty made whole : List ℕ) → zeros_behind n text ≡ replicate n 48 ++ text
+    → empty ≡ [] → made ≡ empty ++ replicate n 48 → whole ≡ made ++ text → whole ≡ zeros_behind n text
+zeros_front n text empty made whole z e m w = rw (z, w, m, e) refl
+
+pub zeros_inside : (n sign : ℕ) (behind text empty one two three : List ℕ) → zeros_behind n text ≡ sign ∷ (replicate n 48 ++ behind)
+    → empty ≡ [] → one ≡ empty ++ sign ∷ [] → two ≡ one ++ replicate n 48 → three ≡ two ++ behind → three ≡ zeros_behind n text
+zeros_inside n sign behind text empty one two three z e o t r = rw (z, r, t, o, e) refl
 
 -- ---- a text between the characters of another
 
@@ -172,3 +196,24 @@ pub length-replaced : (old new text : List ℕ) (cuts : ℕ) → old ≢ [] → 
     → cuts * length new + (length text - cuts * length old) ≡ length (replaced old new text)
 length-replaced old new text cuts some n =
     (swapped old new text (pieces old text) cuts (joined-pieces old text some) n).1 ∙ ap length (replaced-cons old new text some)
+
+-- how many of them there is room for
+counted_texts : (texts : List (List ℕ)) → texts ≢ [] → (k : ℕ) × (length texts ≡ k + 1)
+counted_texts [] some = absurd (some refl)
+counted_texts (text ∷ texts) some = (length texts, sym (add-one (length texts)))
+
+pos_from_some : (xs : List ℕ) → xs ≢ [] → 0 < length xs
+pos_from_some [] some = absurd (some refl)
+pos_from_some (x ∷ xs) some = omega arith
+
+pub room_enough : (old new text : List ℕ) (len part step most : ℕ) → old ≢ [] → len ≡ length text → part ≡ length old → step ≡ length new
+    → len / part * step + len ≤ most → length (replaced old new text) ≤ most
+room_enough old new text len part step most some l p s room =
+    let counted : (k : ℕ) × (length (pieces old text) ≡ k + 1) = counted_texts (pieces old text) (pieces_from-some old 0 text) in
+    let k : ℕ = counted.0 in
+    let n : length (pieces old text) ≡ k + 1 = counted.1 in
+    let within : k * length old ≤ length text = cuts_within old text k some n in
+    let most_cuts : k ≤ length text / length old = le-div k (length text) (length old) (pos_from_some old some) within in
+    let most_new : k * length new ≤ length text / length old * length new = mul-le-mul most_cuts (omega arith) in
+    let room2 : length text / length old * length new + length text ≤ most = rw (l, p, s) at room in
+    omega (arith, room2, most_new, length-replaced old new text k some n)

@@ -1,10 +1,10 @@
 // Texts made of other texts. Each call is given how many characters its result may have, and a longer one is not begun.
-ghost use Rattle.std.specs.Prelude.{◌≡◌, ◌≢◌, ℕ, ◌+◌, ◌*◌, ◌≤◌, [], ◌∷◌, ◌++◌, length, replicate, IfOk, IfSome, IsTrue, ◌↔◌};
+ghost use Rattle.std.specs.Prelude.{◌≡◌, ◌≢◌, ℕ, ◌+◌, ◌*◌, ◌≤◌, [], ◌∷◌, ◌++◌, length, replicate, IfOk, OnOk, IfSome, IsTrue, ◌↔◌};
 ghost use Rattle.std.specs.Str.{chars};
 ghost use Rattle.tx_text.specs.Text.{between, filled, is_sign, joined, pieces, repeated, replaced, zeros_behind};
 ghost use Rattle.tx_text.specs.Laws.{UpTo};
 
-use crate::points::first_char;
+use crate::points::{first_char, text_between};
 use crate::search::first_split;
 use crate::{Long, NoMemory, PyText, Texts};
 use std::alloc::Global;
@@ -62,27 +62,61 @@ fn cuts_of(text: &str, part: &str) -> usize
     cuts
 }
 
+// Whether a text with another in place of each occurrence of a part is within a limit. Where as many occurrences as
+// there is room for would fit, they are not counted.
+fn swapped_fits(text: &PyText, old: &PyText, new: &PyText, most: usize) -> bool
+    requires { old.now ≢ [] }
+    ensures { IsTrue result ↔ (length (replaced old.now new.now text.now) ≤ most) }
+{
+    let (len, part) = (text.len(), old.len());
+    if fits(len / part, new.len(), len, most) {
+        return true;
+    }
+    let cuts = cuts_of(text.as_str(), old.as_str());
+    fits(cuts, new.len(), len - cuts * part, most)
+}
+
 // One text, then another.
 fn pair_of(alloc: Global, a: &str, b: &str) -> Result<PyText, NoMemory>
     ensures { IfOk result (λ t. t ≡ chars a.now ++ chars b.now) }
 {
-    let mut made = PyText::from_str(alloc, a)?;
+    let mut made = PyText::with_room(alloc, a.len().saturating_add(b.len()))?;
+    made.push_str(a)?;
     made.push_str(b)?;
     Ok(made)
+}
+
+// Adds a text so many times at the end.
+fn push_copies(made: &mut PyText, text: &str, times: usize) -> Result<(), NoMemory>
+    ensures { OnOk result (made.new ≡ made.old ++ repeated times (chars text.now)) }
+{
+    'copies: for _ in 0..times {
+        made.push_str(text)?;
+    }
+    Ok(())
 }
 
 // A text so many times. The empty one is not added at all, however often.
 fn copies_of(alloc: Global, text: &str, times: usize) -> Result<PyText, NoMemory>
     ensures { IfOk result (λ t. t ≡ repeated times (chars text.now)) }
 {
-    let mut made = PyText::new(alloc);
     if text.is_empty() {
-        return Ok(made);
+        return Ok(PyText::new(alloc));
     }
-    'copies: for _ in 0..times {
-        made.push_str(text)?;
-    }
+    let mut made = PyText::with_room(alloc, text.len().saturating_mul(times))?;
+    push_copies(&mut made, text, times)?;
     Ok(made)
+}
+
+// How many bytes the texts and a separator for each have, for the room that is taken.
+fn room_of(sep: &str, parts: &[PyText]) -> usize {
+    let mut room = 0usize;
+    for part in parts {
+        room = room
+            .saturating_add(sep.len())
+            .saturating_add(part.as_str().len());
+    }
+    room
 }
 
 // The texts with a separator between them.
@@ -92,7 +126,8 @@ fn chain_of(alloc: Global, sep: &str, parts: &[PyText]) -> Result<PyText, NoMemo
     let [first, more @ ..] = parts else {
         return Ok(PyText::new(alloc));
     };
-    let mut made = PyText::from_str(alloc, first.as_str())?;
+    let mut made = PyText::with_room(alloc, room_of(sep, parts))?;
+    made.push_str(first.as_str())?;
     'parts: for part in more {
         made.push_str(sep)?;
         made.push_str(part.as_str())?;
@@ -116,17 +151,36 @@ fn sign_of(text: &str) -> Option<(char, &str)>
     if is_sign(c) { Some((c, behind)) } else { None }
 }
 
+// Sixty-four zeros, which are added in one step.
+fn zeros() -> &'static str
+    ensures { chars result.now ≡ replicate 64 48 }
+{
+    "0000000000000000000000000000000000000000000000000000000000000000"
+}
+
+// Adds so many zeros at the end.
+fn push_zeros(made: &mut PyText, count: usize) -> Result<(), NoMemory>
+    ensures { OnOk result (made.new ≡ made.old ++ replicate count 48) }
+{
+    push_copies(made, zeros(), count / 64)?;
+    made.push_str(text_between(zeros(), 64, 0, count % 64))?;
+    Ok(())
+}
+
 // A text with so many zeros in front, behind its sign.
 fn zeros_in(alloc: Global, zeros: usize, text: &str) -> Result<PyText, NoMemory>
     ensures { IfOk result (λ t. t ≡ zeros_behind zeros (chars text.now)) }
 {
-    let digits = copies_of(alloc, "0", zeros)?;
+    let mut made = PyText::with_room(alloc, zeros.saturating_add(text.len()))?;
     match sign_of(text) {
-        None => pair_of(alloc, digits.as_str(), text),
+        None => {
+            push_zeros(&mut made, zeros)?;
+            made.push_str(text)?;
+            Ok(made)
+        }
         Some((sign, behind)) => {
-            let mut made = PyText::new(alloc);
             made.push(sign)?;
-            made.push_str(digits.as_str())?;
+            push_zeros(&mut made, zeros)?;
             made.push_str(behind)?;
             Ok(made)
         }
@@ -153,7 +207,7 @@ fn swapped_of(alloc: Global, text: &str, part: &str, other: &str) -> Result<PyTe
     requires { part.now ≢ [] }
     ensures { IfOk result (λ t. t ≡ joined (chars other.now) (pieces (chars part.now) (chars text.now))) }
 {
-    let mut made = PyText::new(alloc);
+    let mut made = PyText::with_room(alloc, text.len())?;
     let mut rest = text;
     'cuts: while let Some((before, behind)) = first_split(rest, part) {
         made.push_str(before)?;
@@ -215,9 +269,7 @@ impl PyText {
         if old.len() == 0 {
             return self.spread(new, most);
         }
-        let cuts = cuts_of(self.as_str(), old.as_str());
-        let kept = self.len() - cuts * old.len();
-        if !fits(cuts, new.len(), kept, most) {
+        if !swapped_fits(self, old, new, most) {
             return Err(Long::TooLong);
         }
         Ok(swapped_of(self.allocator(), self.as_str(), old.as_str(), new.as_str())?)

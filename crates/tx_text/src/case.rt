@@ -1,5 +1,5 @@
 // Small letters, capitals and digits.
-ghost use Rattle.std.specs.Prelude.{◌≡◌, ◌∷◌, ◌++◌, ◌&&◌, [], not, IfOk, OnOk};
+ghost use Rattle.std.specs.Prelude.{◌≡◌, ◌∷◌, ◌++◌, ◌&&◌, [], not, IfOk, OnOk, IsAscii};
 ghost use Rattle.std.specs.List.{list_all, list_any, flat_map};
 ghost use Rattle.std.specs.Str.{chars};
 ghost use Rattle.tx_text.specs.Text.{is_ascii, is_ascii_digit, is_latin, lower_char, upper_char, lower_of, upper_of, digits_of};
@@ -12,6 +12,9 @@ impl PyText {
     pub fn lower(&self) -> Result<Option<PyText>, NoMemory>
         ensures { IfOk result (λ o. o ≡ lower_of self.now) }
     {
+        if self.as_str().is_ascii() {
+            return Ok(Some(small_ascii(self.allocator(), self.as_str())?));
+        }
         if !is_latin(self.as_str()) {
             return Ok(None);
         }
@@ -23,6 +26,9 @@ impl PyText {
     pub fn upper(&self) -> Result<Option<PyText>, NoMemory>
         ensures { IfOk result (λ o. o ≡ upper_of self.now) }
     {
+        if self.as_str().is_ascii() {
+            return Ok(Some(capital_ascii(self.allocator(), self.as_str())?));
+        }
         if !is_latin(self.as_str()) {
             return Ok(None);
         }
@@ -55,11 +61,31 @@ fn small(c: char) -> char
     }
 }
 
+// A text of ASCII in small letters, which are changed in place.
+fn small_ascii(alloc: Global, text: &str) -> Result<PyText, NoMemory>
+    requires { IsAscii text.now }
+    ensures { IfOk result (λ t. t ≡ flat_map (λ c. lower_char c ∷ []) (chars text.now)) }
+{
+    let mut made = String::from_str(alloc, text)?;
+    made.make_ascii_lowercase();
+    Ok(PyText::of_string(made))
+}
+
+// A text of ASCII in capitals.
+fn capital_ascii(alloc: Global, text: &str) -> Result<PyText, NoMemory>
+    requires { IsAscii text.now }
+    ensures { IfOk result (λ t. t ≡ flat_map upper_char (chars text.now)) }
+{
+    let mut made = String::from_str(alloc, text)?;
+    made.make_ascii_uppercase();
+    Ok(PyText::of_string(made))
+}
+
 // The text in small letters.
 fn lowered(alloc: Global, text: &str) -> Result<PyText, NoMemory>
     ensures { IfOk result (λ t. t ≡ flat_map (λ c. lower_char c ∷ []) (chars text.now)) }
 {
-    let mut made = PyText::new(alloc);
+    let mut made = PyText::with_room(alloc, text.len())?;
     for c in text.chars() {
         made.push(small(c))?;
     }
@@ -83,7 +109,7 @@ fn push_capitals(text: &mut PyText, c: char) -> Result<(), NoMemory>
 fn raised(alloc: Global, text: &str) -> Result<PyText, NoMemory>
     ensures { IfOk result (λ t. t ≡ flat_map upper_char (chars text.now)) }
 {
-    let mut made = PyText::new(alloc);
+    let mut made = PyText::with_room(alloc, text.len())?;
     for c in text.chars() {
         push_capitals(&mut made, c)?;
     }

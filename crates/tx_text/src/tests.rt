@@ -1,6 +1,4 @@
-mod ends;
-mod pieces;
-
+// Lists, texts and their bytes. What the text calls answer is tested in `text_vectors`.
 use crate::{Bytes, NoMemory, Numbers, PyText, Sequence, Texts, Utf8Fault};
 use std::test::Fail;
 
@@ -77,53 +75,5 @@ fn bytes_that_are_no_text_are_told(rt: HostRuntime) -> Result<(), Fail> {
     let fault = PyText::from_utf8(alloc, b"a\xff").err();
     assert_eq!(rt; fault, Some(Utf8Fault::NotUtf8));
     assert_eq!(rt; NoMemory, NoMemory);
-    Ok(())
-}
-
-#[test]
-fn texts_are_sliced_and_searched(rt: HostRuntime) -> Result<(), Fail> {
-    let alloc = rt.alloc();
-    let text = PyText::from_str(alloc, "aß€aß")?;
-    assert_eq!(rt; text.slice(1, 9)?.as_str(), "ß€aß");
-    assert_eq!(rt; text.slice(1, 3)?.len(), 2);
-    assert_eq!(rt; text.slice(3, 1)?.as_str(), "");
-    let part = PyText::from_str(alloc, "aß")?;
-    assert_eq!(rt; text.find(&part), Some(0));
-    assert_eq!(rt; text.rfind(&part), Some(3));
-    assert_eq!(rt; text.count(&part), 2);
-    let empty = PyText::new(alloc);
-    assert_eq!(rt; text.find(&empty), Some(0));
-    assert_eq!(rt; text.rfind(&empty), Some(5));
-    assert_eq!(rt; text.count(&empty), 6);
-    assert_eq!(rt; part.find(&text), None);
-    Ok(())
-}
-
-#[test]
-fn ascii_texts_are_read_by_their_bytes(rt: HostRuntime) -> Result<(), Fail> {
-    let alloc = rt.alloc();
-    let text = PyText::from_str(alloc, "abaaaa")?;
-    assert_eq!(rt; text.char_at(1), Some('b'));
-    assert_eq!(rt; text.char_at(6), None);
-    assert_eq!(rt; text.slice(1, 4)?.as_str(), "baa");
-    let part = PyText::from_str(alloc, "aa")?;
-    assert_eq!(rt; text.find(&part), Some(2));
-    assert_eq!(rt; text.rfind(&part), Some(4));
-    assert_eq!(rt; text.count(&part), 2);
-    Ok(())
-}
-
-#[test]
-fn texts_are_ordered_by_code_points(rt: HostRuntime) -> Result<(), Fail> {
-    let alloc = rt.alloc();
-    let short = PyText::from_str(alloc, "a")?;
-    let long = PyText::from_str(alloc, "ab")?;
-    let high = PyText::from_str(alloc, "\u{10000}")?;
-    let low = PyText::from_str(alloc, "\u{ffff}")?;
-    assert_eq!(rt; short.less(&long), true);
-    assert_eq!(rt; long.less(&short), false);
-    assert_eq!(rt; short.less(&short), false);
-    assert_eq!(rt; low.less(&high), true);
-    assert_eq!(rt; high.less(&low), false);
     Ok(())
 }

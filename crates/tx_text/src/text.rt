@@ -1,5 +1,5 @@
 // A text, kept as UTF-8 and seen as its code points.
-ghost use Rattle.std.specs.Prelude.{◌≡◌, ◌↔◌, [], ◌∷◌, ◌++◌, length, OnOk, OnErr, IfOk, IsErrOf, IsUtf8, IsTrue, encode_utf8_all, slice_get};
+ghost use Rattle.std.specs.Prelude.{◌≡◌, ◌↔◌, [], ◌∷◌, ◌++◌, length, OnOk, OnErr, IfOk, IsErrOf, IsUtf8, IsTrue, encode_utf8_all, slice_get, string_bytes};
 ghost use Rattle.std.specs.Str.{chars};
 ghost use Rattle.tx_text.specs.Text.{part_of, less, first_place, last_place, count_of};
 
@@ -168,6 +168,22 @@ impl PyText {
         ensures { result ≡ count_of part.now self.now }
     {
         search::count_parts(self.text.as_str(), self.count, part.text.as_str())
+    }
+
+    // The empty text with room for so many bytes, for one who then adds at most that much.
+    pub(crate) fn with_room(alloc: Global, bytes: usize) -> Result<PyText, NoMemory>
+        ensures { IfOk result (λ t. t ≡ []) }
+    {
+        let text = String::with_capacity(alloc, bytes)?;
+        Ok(PyText { text, count: 0 })
+    }
+
+    // The text of a string.
+    pub(crate) fn of_string(text: String) -> PyText
+        ensures { result ≡ chars (string_bytes text) }
+    {
+        let count = char_count(text.as_str());
+        PyText { text, count }
     }
 
     // The allocator that the text keeps.

@@ -1,7 +1,0 @@
-use Rattle.std.proofs.Common.{◌≡◌}
-use Rattle.std.specs.Str.{chars}
-use Rattle.tx_text.specs.Text.{repeated}
-use Rattle.tx_text.proofs.build.copies_of.Given as goal
-
-abbrev pub invariant-copies : goal.invariant-copies
-invariant-copies l = l.made ≡ repeated l.counter (chars l.text)
