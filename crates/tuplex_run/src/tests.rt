@@ -26,16 +26,13 @@ pub(crate) const REPORT_HEAD: &[u8] = b"operator,kind,class,row\n";
 /// How a command ended, and what it left.
 #[derive(Drop)]
 pub(crate) struct Ran {
+    pub status: u8,
     pub outcome: Outcome,
     pub place: MemoryPlace,
     pub console: MemoryConsole,
 }
 
 impl Ran {
-    pub(crate) fn status(&self) -> u8 {
-        status(&self.outcome)
-    }
-
     /// The file of this name has these bytes, or there is none.
     pub(crate) fn left(&self, name: &str, bytes: Option<&[u8]>) -> bool {
         match (self.place.bytes_of(name), bytes) {
@@ -63,6 +60,12 @@ pub(crate) struct Faults<'a> {
     pub most: usize,
 }
 
+pub(crate) const NO_FAULTS: Faults<'static> = Faults {
+    place: &[],
+    console: &[],
+    most: 65_536,
+};
+
 fn counted<L: Ledger>(
     alloc: Global,
     words: &Words,
@@ -77,15 +80,6 @@ fn counted<L: Ledger>(
     let mut meter = Meter::new();
     let mut steps = Steps::<L>::open(blank);
     run_words(alloc, words, place, console, &mut meter, &mut steps)
-}
-
-fn run(
-    alloc: Global,
-    words: &Words,
-    place: &mut MemoryPlace,
-    console: &mut MemoryConsole,
-) -> Outcome {
-    counted::<Brand>(alloc, words, place, console, Blank::new(1))
 }
 
 /// Runs these words over a script of this name and an input of this name.
@@ -114,8 +108,9 @@ pub(crate) fn run_words_on(
     let mut place = MemoryPlace::new(alloc, files, failing, most)?;
     let failing = Numbers::from_vec(faults.console.to_vec(alloc)?);
     let mut console = MemoryConsole::new(alloc, failing)?;
-    let outcome = run(alloc, &all, &mut place, &mut console);
+    let outcome = counted::<Brand>(alloc, &all, &mut place, &mut console, Blank::new(1));
     Ok(Ran {
+        status: status(&outcome),
         outcome,
         place,
         console,
@@ -124,21 +119,26 @@ pub(crate) fn run_words_on(
 
 /// Runs a script named `s.txs` on `in.csv`, and no call fails.
 pub(crate) fn run_script(alloc: Global, script: &[u8], input: &[u8]) -> Result<Ran, NoMemory> {
-    let faults = Faults {
-        place: &[],
-        console: &[],
-        most: 65_536,
-    };
     run_words_on(
         alloc,
         &["run", "s.txs"],
         ("s.txs", script),
         ("in.csv", input),
-        &faults,
+        &NO_FAULTS,
     )
 }
 
 /// Runs the sums on an input.
 pub(crate) fn run_sums(alloc: Global, input: &[u8]) -> Result<Ran, NoMemory> {
     run_script(alloc, SUMS, input)
+}
+
+/// A text, and so many letters behind it.
+pub(crate) fn with_letters(alloc: Global, text: &[u8], letters: usize) -> Result<Bytes, NoMemory> {
+    let mut all = Bytes::new(alloc);
+    all.push_all(text)?;
+    for _ in 0..letters {
+        all.push(b'x')?;
+    }
+    Ok(all)
 }

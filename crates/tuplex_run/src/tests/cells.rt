@@ -1,52 +1,52 @@
 // What fields are read as, and what their sums are.
-use super::{REPORT_HEAD, REPORT_NAME, Ran, run_sums};
-use std::alloc::Global;
+use super::{REPORT_NAME, run_sums};
 use std::test::Fail;
-use tx_text::{Bytes, NoMemory};
 
-// The sums of one record, whose header is `a,b`.
-fn run_record(alloc: Global, record: &[u8]) -> Result<Ran, NoMemory> {
-    let mut input = Bytes::new(alloc);
-    input.push_all(b"a,b\n")?;
-    input.push_all(record)?;
-    run_sums(alloc, input.as_slice())
-}
-
-// The output is the header and this row.
-fn is_row(alloc: Global, ran: &Ran, row: &[u8]) -> Result<bool, NoMemory> {
-    let mut output = Bytes::new(alloc);
-    output.push_all(b"a,b,s\n")?;
-    output.push_all(row)?;
-    Ok(ran.wrote(output.as_slice()))
-}
-
-// Records, and the rows that they become.
-fn sum_case(at: usize) -> Option<(&'static [u8], &'static [u8])> {
+// Inputs of one record, and their outputs.
+fn sum_case(at: usize) -> Option<(&'static str, &'static str)> {
     Some(match at {
-        0 => (b"1,2\n".as_slice(), b"1,2,3\n".as_slice()),
-        1 => (b"-5,3\n".as_slice(), b"-5,3,-2\n".as_slice()),
-        2 => (b"0,0\n".as_slice(), b"0,0,0\n".as_slice()),
-        3 => (b"True,1\n".as_slice(), b"True,1,2\n".as_slice()),
-        4 => (b"True,True\n".as_slice(), b"True,True,2\n".as_slice()),
-        5 => (b"False,False\n".as_slice(), b"False,False,0\n".as_slice()),
-        6 => (b"x,y\n".as_slice(), b"x,y,xy\n".as_slice()),
-        7 => (b"007,x\n".as_slice(), b"007,x,007x\n".as_slice()),
-        8 => (b"-0,x\n".as_slice(), b"-0,x,-0x\n".as_slice()),
-        9 => (b"+1,x\n".as_slice(), b"+1,x,+1x\n".as_slice()),
-        10 => (b"true,x\n".as_slice(), b"true,x,truex\n".as_slice()),
-        11 => (b"-,x\n".as_slice(), b"-,x,-x\n".as_slice()),
-        12 => (b" 1,x\n".as_slice(), b" 1,x, 1x\n".as_slice()),
-        13 => (
-            b"\"q\"\"\",z\n".as_slice(),
-            b"\"q\"\"\",z,\"q\"\"z\"\n".as_slice(),
+        0 => ("a,b\n1,2\n", "a,b,s\n1,2,3\n"),
+        1 => ("a,b\n-5,3\n", "a,b,s\n-5,3,-2\n"),
+        2 => ("a,b\n0,0\n", "a,b,s\n0,0,0\n"),
+        3 => ("a,b\nTrue,1\n", "a,b,s\nTrue,1,2\n"),
+        4 => ("a,b\nTrue,True\n", "a,b,s\nTrue,True,2\n"),
+        5 => ("a,b\nFalse,False\n", "a,b,s\nFalse,False,0\n"),
+        6 => ("a,b\nx,y\n", "a,b,s\nx,y,xy\n"),
+        7 => ("a,b\n007,x\n", "a,b,s\n007,x,007x\n"),
+        8 => ("a,b\n-0,x\n", "a,b,s\n-0,x,-0x\n"),
+        9 => ("a,b\n+1,x\n", "a,b,s\n+1,x,+1x\n"),
+        10 => ("a,b\ntrue,x\n", "a,b,s\ntrue,x,truex\n"),
+        11 => ("a,b\n-,x\n", "a,b,s\n-,x,-x\n"),
+        12 => ("a,b\n 1,x\n", "a,b,s\n 1,x, 1x\n"),
+        13 => ("a,b\n\"q\"\"\",z\n", "a,b,s\n\"q\"\"\",z,\"q\"\"z\"\n"),
+        14 => ("a,b\n\"a,b\",c\n", "a,b,s\n\"a,b\",c,\"a,bc\"\n"),
+        15 => ("a,b\n\"a\nb\",c\n", "a,b,s\n\"a\nb\",c,\"a\nbc\"\n"),
+        _ => return wide_case(at - 16),
+    })
+}
+
+// The same at both ends of 128 bits, and one past each.
+fn wide_case(at: usize) -> Option<(&'static str, &'static str)> {
+    Some(match at {
+        0 => (
+            "a,b\n170141183460469231731687303715884105727,0\n",
+            "a,b,s\n170141183460469231731687303715884105727,0,170141183460469231731687303715884105727\n",
         ),
-        14 => (
-            b"\"a,b\",c\n".as_slice(),
-            b"\"a,b\",c,\"a,bc\"\n".as_slice(),
+        1 => (
+            "a,b\n-170141183460469231731687303715884105728,0\n",
+            "a,b,s\n-170141183460469231731687303715884105728,0,-170141183460469231731687303715884105728\n",
         ),
-        15 => (
-            b"\"a\nb\",c\n".as_slice(),
-            b"\"a\nb\",c,\"a\nbc\"\n".as_slice(),
+        2 => (
+            "a,b\n170141183460469231731687303715884105727,-170141183460469231731687303715884105728\n",
+            "a,b,s\n170141183460469231731687303715884105727,-170141183460469231731687303715884105728,-1\n",
+        ),
+        3 => (
+            "a,b\n170141183460469231731687303715884105728,x\n",
+            "a,b,s\n170141183460469231731687303715884105728,x,170141183460469231731687303715884105728x\n",
+        ),
+        4 => (
+            "a,b\n-170141183460469231731687303715884105729,x\n",
+            "a,b,s\n-170141183460469231731687303715884105729,x,-170141183460469231731687303715884105729x\n",
         ),
         _ => return None,
     })
@@ -56,95 +56,51 @@ fn sum_case(at: usize) -> Option<(&'static [u8], &'static [u8])> {
 fn sums_of_cells(rt: HostRuntime) -> Result<(), Fail> {
     let alloc = rt.alloc();
     for at in 0..usize::MAX {
-        let Some((record, row)) = sum_case(at) else {
+        let Some((input, output)) = sum_case(at) else {
             break;
         };
-        let ran = run_record(alloc, record)?;
-        assert_eq!(rt; ran.status(), 0);
-        assert_eq!(rt; is_row(alloc, &ran, row)?, true);
+        let ran = run_sums(alloc, input.as_bytes())?;
+        assert_eq!(rt; ran.status, 0);
+        assert_eq!(rt; ran.wrote(output.as_bytes()), true);
         assert_eq!(rt; ran.console.said(), b"rows 1 exceptions 0\n".as_slice());
     }
     Ok(())
 }
 
-// The same at both ends of 128 bits, and one past each.
-fn wide_case(at: usize) -> Option<(&'static [u8], &'static [u8])> {
+const TYPE_ERROR: &str = "operator,kind,class,row\n2,withColumn,TypeError,1:1\n";
+
+const OVERFLOW_ERROR: &str = "operator,kind,class,row\n2,withColumn,OverflowError,1:1\n";
+
+// Inputs of one record whose sum raises, and their reports.
+fn raising_case(at: usize) -> Option<(&'static str, &'static str)> {
     Some(match at {
-        0 => (
-            b"170141183460469231731687303715884105727,0\n".as_slice(),
-            b"170141183460469231731687303715884105727,0,170141183460469231731687303715884105727\n".as_slice(),
+        0 => ("a,b\n,1\n", TYPE_ERROR),
+        1 => ("a,b\n,\n", TYPE_ERROR),
+        2 => ("a,b\n,True\n", TYPE_ERROR),
+        3 => ("a,b\n,x\n", TYPE_ERROR),
+        4 => ("a,b\n1,\n", TYPE_ERROR),
+        5 => ("a,b\nx,\n", TYPE_ERROR),
+        6 => ("a,b\nx,1\n", TYPE_ERROR),
+        7 => ("a,b\n1,x\n", TYPE_ERROR),
+        8 => ("a,b\nx,True\n", TYPE_ERROR),
+        9 => ("a,b\nTrue,x\n", TYPE_ERROR),
+        10 => ("a,b\n007,1\n", TYPE_ERROR),
+        11 => (
+            "a,b\n170141183460469231731687303715884105728,1\n",
+            TYPE_ERROR,
         ),
-        1 => (
-            b"-170141183460469231731687303715884105728,0\n".as_slice(),
-            b"-170141183460469231731687303715884105728,0,-170141183460469231731687303715884105728\n".as_slice(),
+        12 => (
+            "a,b\n170141183460469231731687303715884105727,1\n",
+            OVERFLOW_ERROR,
         ),
-        2 => (
-            b"170141183460469231731687303715884105727,-170141183460469231731687303715884105728\n".as_slice(),
-            b"170141183460469231731687303715884105727,-170141183460469231731687303715884105728,-1\n".as_slice(),
+        13 => (
+            "a,b\n170141183460469231731687303715884105727,True\n",
+            OVERFLOW_ERROR,
         ),
-        3 => (
-            b"170141183460469231731687303715884105728,x\n".as_slice(),
-            b"170141183460469231731687303715884105728,x,170141183460469231731687303715884105728x\n".as_slice(),
+        14 => (
+            "a,b\n-170141183460469231731687303715884105728,-1\n",
+            OVERFLOW_ERROR,
         ),
-        4 => (
-            b"-170141183460469231731687303715884105729,x\n".as_slice(),
-            b"-170141183460469231731687303715884105729,x,-170141183460469231731687303715884105729x\n".as_slice(),
-        ),
-        _ => return None,
-    })
-}
-
-#[test]
-fn sums_at_both_ends_of_128_bits(rt: HostRuntime) -> Result<(), Fail> {
-    let alloc = rt.alloc();
-    for at in 0..usize::MAX {
-        let Some((record, row)) = wide_case(at) else {
-            break;
-        };
-        let ran = run_record(alloc, record)?;
-        assert_eq!(rt; is_row(alloc, &ran, row)?, true);
-    }
-    Ok(())
-}
-
-// The record's sum raises: the output is its header alone, and the report has this entry.
-fn raises(alloc: Global, record: &[u8], entry: &[u8]) -> Result<bool, NoMemory> {
-    let ran = run_record(alloc, record)?;
-    let mut report = Bytes::new(alloc);
-    report.push_all(REPORT_HEAD)?;
-    report.push_all(entry)?;
-    Ok(
-        is_row(alloc, &ran, b"")?
-            && ran.left(REPORT_NAME, Some(report.as_slice()))
-            && ran.console.said() == b"rows 0 exceptions 1\n".as_slice(),
-    )
-}
-
-// Records whose sum is a TypeError.
-fn type_error(at: usize) -> Option<&'static [u8]> {
-    Some(match at {
-        0 => b",1\n".as_slice(),
-        1 => b",\n".as_slice(),
-        2 => b",True\n".as_slice(),
-        3 => b",x\n".as_slice(),
-        4 => b"1,\n".as_slice(),
-        5 => b"x,\n".as_slice(),
-        6 => b"x,1\n".as_slice(),
-        7 => b"1,x\n".as_slice(),
-        8 => b"x,True\n".as_slice(),
-        9 => b"True,x\n".as_slice(),
-        10 => b"007,1\n".as_slice(),
-        11 => b"170141183460469231731687303715884105728,1\n".as_slice(),
-        _ => return None,
-    })
-}
-
-// Records whose sum is an OverflowError.
-fn overflow_error(at: usize) -> Option<&'static [u8]> {
-    Some(match at {
-        0 => b"170141183460469231731687303715884105727,1\n".as_slice(),
-        1 => b"170141183460469231731687303715884105727,True\n".as_slice(),
-        2 => b"-170141183460469231731687303715884105728,-1\n".as_slice(),
         _ => return None,
     })
 }
@@ -153,22 +109,14 @@ fn overflow_error(at: usize) -> Option<&'static [u8]> {
 fn sums_that_raise(rt: HostRuntime) -> Result<(), Fail> {
     let alloc = rt.alloc();
     for at in 0..usize::MAX {
-        let Some(record) = type_error(at) else {
+        let Some((input, report)) = raising_case(at) else {
             break;
         };
-        assert_eq!(rt;
-            raises(alloc, record, b"2,withColumn,TypeError,1:1\n")?,
-            true
-        );
-    }
-    for at in 0..usize::MAX {
-        let Some(record) = overflow_error(at) else {
-            break;
-        };
-        assert_eq!(rt;
-            raises(alloc, record, b"2,withColumn,OverflowError,1:1\n")?,
-            true
-        );
+        let ran = run_sums(alloc, input.as_bytes())?;
+        assert_eq!(rt; ran.status, 0);
+        assert_eq!(rt; ran.wrote(b"a,b,s\n"), true);
+        assert_eq!(rt; ran.left(REPORT_NAME, Some(report.as_bytes())), true);
+        assert_eq!(rt; ran.console.said(), b"rows 0 exceptions 1\n".as_slice());
     }
     Ok(())
 }

@@ -1,14 +1,6 @@
 // Words and scripts.
-use super::{Faults, Ran, SUMS, run_script, run_words_on};
-use std::alloc::Global;
+use super::{NO_FAULTS, REPORT_NAME, SUMS, run_script, run_words_on, with_letters};
 use std::test::Fail;
-use tx_text::{Bytes, NoMemory};
-
-const NO_FAULTS: Faults<'static> = Faults {
-    place: &[],
-    console: &[],
-    most: 65_536,
-};
 
 const INPUT: &[u8] = b"a,b\n1,2\n";
 
@@ -35,35 +27,11 @@ fn other_words_are_refused(rt: HostRuntime) -> Result<(), Fail> {
             break;
         };
         let ran = run_words_on(alloc, words, ("s.txs", SUMS), ("in.csv", INPUT), &NO_FAULTS)?;
-        assert_eq!(rt; ran.status(), 2);
+        assert_eq!(rt; ran.status, 2);
         assert_eq!(rt; ran.wrote_nothing(), true);
         assert_eq!(rt; ran.console.said(), b"".as_slice());
         assert_eq!(rt; ran.console.complained(), usage.as_slice());
     }
-    Ok(())
-}
-
-#[test]
-fn a_script_may_be_called_dash(rt: HostRuntime) -> Result<(), Fail> {
-    let alloc = rt.alloc();
-    let ran = run_words_on(
-        alloc,
-        &["run", "-"],
-        ("-", SUMS),
-        ("in.csv", INPUT),
-        &NO_FAULTS,
-    )?;
-    assert_eq!(rt; ran.wrote(b"a,b,s\n1,2,3\n"), true);
-    Ok(())
-}
-
-#[test]
-fn a_line_feed_may_end_the_script(rt: HostRuntime) -> Result<(), Fail> {
-    let alloc = rt.alloc();
-    let bare =
-        b"csv(\"in.csv\").withColumn(\"s\", lambda x: x[\"a\"] + x[\"b\"]).tocsv(\"out.csv\")";
-    assert_eq!(rt; run_script(alloc, bare, INPUT)?.status(), 0);
-    assert_eq!(rt; run_script(alloc, SUMS, INPUT)?.status(), 0);
     Ok(())
 }
 
@@ -105,7 +73,7 @@ fn other_scripts_are_not_this_form(rt: HostRuntime) -> Result<(), Fail> {
             break;
         };
         let ran = run_script(alloc, script, INPUT)?;
-        assert_eq!(rt; ran.status(), 10);
+        assert_eq!(rt; ran.status, 10);
         assert_eq!(rt;
             ran.console.complained(),
             b"tuplex: not this form\n".as_slice()
@@ -117,36 +85,25 @@ fn other_scripts_are_not_this_form(rt: HostRuntime) -> Result<(), Fail> {
 }
 
 #[test]
-fn the_report_is_not_the_script(rt: HostRuntime) -> Result<(), Fail> {
+fn a_script_has_any_name_but_the_reports(rt: HostRuntime) -> Result<(), Fail> {
     let alloc = rt.alloc();
-    let name = "out.csv.exceptions.csv";
-    let ran = run_words_on(
-        alloc,
-        &["run", name],
-        (name, SUMS),
-        ("in.csv", INPUT),
-        &NO_FAULTS,
-    )?;
-    assert_eq!(rt; ran.status(), 10);
-    assert_eq!(rt; ran.left(name, Some(SUMS)), true);
+    let input = ("in.csv", INPUT);
+    let dash = run_words_on(alloc, &["run", "-"], ("-", SUMS), input, &NO_FAULTS)?;
+    assert_eq!(rt; dash.wrote(b"a,b,s\n1,2,3\n"), true);
+    let words = ["run", REPORT_NAME];
+    let report = run_words_on(alloc, &words, (REPORT_NAME, SUMS), input, &NO_FAULTS)?;
+    assert_eq!(rt; report.status, 10);
+    assert_eq!(rt; report.left(REPORT_NAME, Some(SUMS)), true);
     Ok(())
-}
-
-// Runs the sums with a new column whose name has so many letters.
-fn run_named(alloc: Global, letters: usize) -> Result<Ran, NoMemory> {
-    let mut script = Bytes::new(alloc);
-    script.push_all(b"csv(\"in.csv\").withColumn(\"")?;
-    for _ in 0..letters {
-        script.push(b'n')?;
-    }
-    script.push_all(b"\", lambda x: x[\"a\"] + x[\"b\"]).tocsv(\"out.csv\")")?;
-    run_script(alloc, script.as_slice(), INPUT)
 }
 
 #[test]
 fn a_name_has_at_most_64_letters(rt: HostRuntime) -> Result<(), Fail> {
     let alloc = rt.alloc();
-    assert_eq!(rt; run_named(alloc, 64)?.status(), 0);
-    assert_eq!(rt; run_named(alloc, 65)?.status(), 10);
+    for (letters, status) in [(64, 0), (65, 10)] {
+        let mut script = with_letters(alloc, b"csv(\"in.csv\").withColumn(\"", letters)?;
+        script.push_all(b"\", lambda x: x[\"a\"] + x[\"b\"]).tocsv(\"out.csv\")")?;
+        assert_eq!(rt; run_script(alloc, script.as_slice(), INPUT)?.status, status);
+    }
     Ok(())
 }

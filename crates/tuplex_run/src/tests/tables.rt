@@ -1,60 +1,54 @@
 // Whole files: the worked examples, and how records are read and written.
-use super::{REPORT_HEAD, REPORT_NAME, Ran, run_script, run_sums};
+use super::{REPORT_HEAD, REPORT_NAME, Ran, SUMS, run_script, run_sums, with_letters};
 use std::test::Fail;
-use tx_text::Bytes;
 
-fn is_written(ran: &Ran, output: &[u8], report: &[u8], line: &[u8]) -> bool {
-    ran.status() == 0
-        && ran.wrote(output)
-        && ran.left(REPORT_NAME, Some(report))
-        && ran.console.said() == line
-        && ran.console.complained().is_empty()
+// Inputs, outputs, reports and console lines.
+type Example = (&'static [u8], &'static [u8], &'static [u8], &'static [u8]);
+
+fn example(at: usize) -> Option<Example> {
+    Some(match at {
+        0 => (
+            b"a,b\n1,2\n3,4\n".as_slice(),
+            b"a,b,s\n1,2,3\n3,4,7\n".as_slice(),
+            REPORT_HEAD,
+            b"rows 2 exceptions 0\n".as_slice(),
+        ),
+        1 => (
+            b"a,b\n1,2\nx,4\n,5\nx,y\n".as_slice(),
+            b"a,b,s\n1,2,3\nx,y,xy\n".as_slice(),
+            b"operator,kind,class,row\n2,withColumn,TypeError,1:2\n2,withColumn,TypeError,1:3\n".as_slice(),
+            b"rows 2 exceptions 2\n".as_slice(),
+        ),
+        2 => (
+            b"a,b\n170141183460469231731687303715884105727,1\n170141183460469231731687303715884105728,1\n".as_slice(),
+            b"a,b,s\n".as_slice(),
+            b"operator,kind,class,row\n2,withColumn,OverflowError,1:1\n2,withColumn,TypeError,1:2\n".as_slice(),
+            b"rows 0 exceptions 2\n".as_slice(),
+        ),
+        _ => return None,
+    })
 }
 
 #[test]
-fn two_sums(rt: HostRuntime) -> Result<(), Fail> {
-    let ran = run_sums(rt.alloc(), b"a,b\n1,2\n3,4\n")?;
-    let done = is_written(
-        &ran,
-        b"a,b,s\n1,2,3\n3,4,7\n",
-        REPORT_HEAD,
-        b"rows 2 exceptions 0\n",
-    );
-    assert_eq!(rt; done, true);
+fn worked_examples(rt: HostRuntime) -> Result<(), Fail> {
+    let alloc = rt.alloc();
+    for at in 0..usize::MAX {
+        let Some((input, output, report, line)) = example(at) else {
+            break;
+        };
+        let ran = run_sums(alloc, input)?;
+        assert_eq!(rt; ran.status, 0);
+        assert_eq!(rt; ran.wrote(output), true);
+        assert_eq!(rt; ran.left(REPORT_NAME, Some(report)), true);
+        assert_eq!(rt; ran.console.said(), line);
+        assert_eq!(rt; ran.console.complained(), b"".as_slice());
+    }
     Ok(())
 }
 
-#[test]
-fn text_and_missing_cells(rt: HostRuntime) -> Result<(), Fail> {
-    let ran = run_sums(rt.alloc(), b"a,b\n1,2\nx,4\n,5\nx,y\n")?;
-    let report =
-        b"operator,kind,class,row\n2,withColumn,TypeError,1:2\n2,withColumn,TypeError,1:3\n";
-    let done = is_written(
-        &ran,
-        b"a,b,s\n1,2,3\nx,y,xy\n",
-        report,
-        b"rows 2 exceptions 2\n",
-    );
-    assert_eq!(rt; done, true);
-    Ok(())
-}
-
-#[test]
-fn integer_bound(rt: HostRuntime) -> Result<(), Fail> {
-    let input =
-        b"a,b\n170141183460469231731687303715884105727,1\n170141183460469231731687303715884105728,1\n";
-    let report =
-        b"operator,kind,class,row\n2,withColumn,OverflowError,1:1\n2,withColumn,TypeError,1:2\n";
-    let ran = run_sums(rt.alloc(), input)?;
-    assert_eq!(rt;
-        is_written(&ran, b"a,b,s\n", report, b"rows 0 exceptions 2\n"),
-        true
-    );
-    Ok(())
-}
-
-// Scripts, inputs and outputs.
-fn column_case(at: usize) -> Option<(&'static [u8], &'static [u8], &'static [u8])> {
+// Scripts, inputs and outputs: the new column replaces one of its name or is appended, and a line feed may end the
+// script.
+fn script_case(at: usize) -> Option<(&'static [u8], &'static [u8], &'static [u8])> {
     Some(match at {
         0 => (
             b"csv(\"in.csv\").withColumn(\"a\", lambda x: x[\"a\"] + x[\"b\"]).tocsv(\"out.csv\")".as_slice(),
@@ -81,19 +75,25 @@ fn column_case(at: usize) -> Option<(&'static [u8], &'static [u8], &'static [u8]
             b"a,b\nx,y\n".as_slice(),
             b"a,b,s\nx,y,yx\n".as_slice(),
         ),
+        5 => (
+            b"csv(\"in.csv\").withColumn(\"s\", lambda x: x[\"a\"] + x[\"b\"]).tocsv(\"out.csv\")".as_slice(),
+            b"a,b\n1,2\n".as_slice(),
+            b"a,b,s\n1,2,3\n".as_slice(),
+        ),
+        6 => (SUMS, b"a,b\n1,2\n".as_slice(), b"a,b,s\n1,2,3\n".as_slice()),
         _ => return None,
     })
 }
 
 #[test]
-fn the_new_column_replaces_or_is_appended(rt: HostRuntime) -> Result<(), Fail> {
+fn scripts_of_the_form(rt: HostRuntime) -> Result<(), Fail> {
     let alloc = rt.alloc();
     for at in 0..usize::MAX {
-        let Some((script, input, output)) = column_case(at) else {
+        let Some((script, input, output)) = script_case(at) else {
             break;
         };
         let ran = run_script(alloc, script, input)?;
-        assert_eq!(rt; ran.status(), 0);
+        assert_eq!(rt; ran.status, 0);
         assert_eq!(rt; ran.wrote(output), true);
     }
     Ok(())
@@ -131,7 +131,7 @@ fn records_are_those_of_csv(rt: HostRuntime) -> Result<(), Fail> {
             break;
         };
         let ran = run_sums(alloc, input)?;
-        assert_eq!(rt; ran.status(), 0);
+        assert_eq!(rt; ran.status, 0);
         assert_eq!(rt; ran.wrote(output), true);
         assert_eq!(rt; ran.left(REPORT_NAME, Some(REPORT_HEAD)), true);
     }
@@ -140,7 +140,7 @@ fn records_are_those_of_csv(rt: HostRuntime) -> Result<(), Fail> {
 
 // Nothing was written or said, and the refusal was complained of.
 fn is_refused(ran: &Ran) -> bool {
-    ran.status() == 10
+    ran.status == 10
         && ran.wrote_nothing()
         && ran.console.said().is_empty()
         && ran.console.complained() == b"tuplex: not this form\n".as_slice()
@@ -176,12 +176,8 @@ fn files_that_are_no_table_are_refused(rt: HostRuntime) -> Result<(), Fail> {
 #[test]
 fn a_field_has_at_most_65536_bytes(rt: HostRuntime) -> Result<(), Fail> {
     let alloc = rt.alloc();
-    let mut input = Bytes::new(alloc);
-    input.push_all(b"a,b,c\n1,2,")?;
-    for _ in 0..65_536 {
-        input.push(b'x')?;
-    }
-    assert_eq!(rt; run_sums(alloc, input.as_slice())?.status(), 0);
+    let mut input = with_letters(alloc, b"a,b,c\n1,2,", 65_536)?;
+    assert_eq!(rt; run_sums(alloc, input.as_slice())?.status, 0);
     input.push(b'x')?;
     assert_eq!(rt; is_refused(&run_sums(alloc, input.as_slice())?), true);
     Ok(())
