@@ -1,0 +1,4 @@
+pub mod Number
+pub mod ReadInt
+pub mod Reading
+pub mod Laws

@@ -1,0 +1,16 @@
+//! Integers of 128 bits: arithmetic that tells where a result has no room, and integers as texts, read and printed.
+#![tactic(auto)]
+
+mod arithmetic;
+mod division;
+mod print;
+mod read;
+mod reading;
+
+pub use arithmetic::{add, mul, neg, sub};
+pub use division::{Division, floor_div, floor_division_is_the_only_one, floor_mod};
+pub use print::{print_int, printed_ints_read_back};
+pub use read::{IntRead, read_int};
+
+#[cfg(test)]
+mod tests;
