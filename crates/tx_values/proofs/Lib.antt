@@ -1,0 +1,10 @@
+pub mod Equivalence
+pub mod Induct
+pub mod Keyed
+pub mod Layers
+pub mod Ordered
+pub mod Orders
+pub mod Pigeons
+pub mod Same
+pub mod Validity
+pub mod Within

@@ -1,0 +1,5 @@
+use Rattle.tx_values.proofs.Within.{parts_within}
+use Rattle.tx_values.proofs.laws.parts_are_less.Goals as goal
+
+pub returns : goal.returns
+returns c = parts_within
