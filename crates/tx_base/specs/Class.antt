@@ -1,5 +1,5 @@
 -- The words of the classes, and their order (the exception hierarchy of Python, with two classes of the project's own).
-use Rattle.std.specs.Prelude.{◌≡◌, ◌↔◌, ◌||◌, ℕ, Bool, true, false, List, [], ◌∷◌, Option, Some, None, codes}
+use Rattle.std.specs.Prelude.{ℕ, Bool, true, false, List, [], ◌∷◌, Option, Some, None, codes}
 use Rattle.std.specs.List.{list_any}
 use Rattle.tx_base.specs.declared.class.Class.{Class}
 use Rattle.tx_base.specs.declared.class.Class.TheVariants.{TypeError, ValueError, KeyError, IndexError, ZeroDivisionError, OverflowError, AttributeError, UnboundLocalError, UnicodeDecodeError, ProfileError, RecordError, ArithmeticError, LookupError, NameError, Exception}
@@ -64,12 +64,3 @@ same_class _ _ = false
 -- a class catches itself and all below it
 abbrev pub catches : Class → Class → Bool
 catches handler raised = list_any (same_class handler) (lineage raised)
-
-abbrev pub catches_above : Class → Option Class → Bool
-catches_above handler None = false
-catches_above handler (Some class) = catches handler class
-
--- the law above both: what is caught goes from class to class upwards, and by nothing else
-pub record OrderLaw : Type 0 where
-  pub same : (a b : Class) → (same_class a b ≡ true) ↔ (a ≡ b)
-  pub up : (handler raised : Class) → catches handler raised ≡ (same_class handler raised || catches_above handler (above raised))

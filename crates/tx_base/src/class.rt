@@ -1,6 +1,7 @@
 // The classes of exceptions.
 ghost use Rattle.std.specs.Prelude.{◌≡◌, ◌↔◌, Some};
-ghost use Rattle.tx_base.specs.Class.{name_of, catches, OrderLaw};
+ghost use Rattle.tx_base.specs.Class.{name_of, catches};
+ghost use Rattle.tx_base.specs.Laws.{ClassesAreATree};
 
 /// A class of exceptions. The first eleven can be raised; the last four only catch.
 #[derive(Clone, Copy, Debug, PartialEq, Eq)]
@@ -92,5 +93,5 @@ pub fn catches(handler: Class, raised: Class) -> bool
 
 /// A class is caught by itself and by what catches the class directly above it, and by nothing else.
 pub fn classes_are_a_tree()
-    ensures { OrderLaw }
+    ensures { ClassesAreATree }
 {}

@@ -50,68 +50,59 @@ fn classes_have_their_words(rt: HostRuntime) -> Result<(), Fail> {
     Ok(())
 }
 
-// Each class with the classes above it, as Python's `__mro__` has them; the last two of those raised are the project's
-// own, straight under `Exception`.
-fn ancestors(at: usize) -> Option<(Class, &'static [Class])> {
-    Some(match at {
-        0 => (Class::TypeError, &[Class::Exception]),
-        1 => (Class::ValueError, &[Class::Exception]),
-        2 => (Class::KeyError, &[Class::LookupError, Class::Exception]),
-        3 => (Class::IndexError, &[Class::LookupError, Class::Exception]),
-        4 => (
-            Class::ZeroDivisionError,
-            &[Class::ArithmeticError, Class::Exception],
-        ),
-        5 => (
-            Class::OverflowError,
-            &[Class::ArithmeticError, Class::Exception],
-        ),
-        6 => (Class::AttributeError, &[Class::Exception]),
-        7 => (
-            Class::UnboundLocalError,
-            &[Class::NameError, Class::Exception],
-        ),
-        8 => (
-            Class::UnicodeDecodeError,
-            &[Class::ValueError, Class::Exception],
-        ),
-        9 => (Class::ProfileError, &[Class::Exception]),
-        10 => (Class::RecordError, &[Class::Exception]),
-        11 => (Class::ArithmeticError, &[Class::Exception]),
-        12 => (Class::LookupError, &[Class::Exception]),
-        13 => (Class::NameError, &[Class::Exception]),
-        14 => (Class::Exception, &[]),
-        _ => return None,
-    })
+// Each class with those above it, from the nearest, as Python's `__mro__` has them; ProfileError and RecordError are the
+// project's own.
+const LINEAGES: &str = "\
+TypeError Exception
+ValueError Exception
+KeyError LookupError Exception
+IndexError LookupError Exception
+ZeroDivisionError ArithmeticError Exception
+OverflowError ArithmeticError Exception
+AttributeError Exception
+UnboundLocalError NameError Exception
+UnicodeDecodeError ValueError Exception
+ProfileError Exception
+RecordError Exception
+ArithmeticError Exception
+LookupError Exception
+NameError Exception
+Exception
+";
+
+// The first word of a line, and its class.
+fn first(line: &str) -> Option<(&str, Class)> {
+    let word = line.split(' ').next()?;
+    Some((word, class_named(word)?))
 }
 
 #[test]
 fn a_class_is_caught_by_itself_and_those_above(rt: HostRuntime) -> Result<(), Fail> {
-    for at in 0..15 {
-        let Some((raised, above)) = ancestors(at) else {
-            break;
-        };
-        for other in 0..15 {
-            let Some((handler, _)) = ancestors(other) else {
-                break;
-            };
-            let expected = handler == raised || above.contains(&handler);
-            assert_eq!(rt; catches(handler, raised), expected, "{} and {}", at, other);
+    let mut pairs = 0u32;
+    for line in LINEAGES.lines() {
+        let (_, raised) = first(line).ok_or("no class")?;
+        for other in LINEAGES.lines() {
+            let (word, handler) = first(other).ok_or("no class")?;
+            let expected = line.split(' ').any(|above| above == word);
+            assert_eq!(rt; catches(handler, raised), expected, "{word} and {line}");
+            pairs = pairs.saturating_add(1);
         }
     }
+    assert_eq!(rt; pairs, 225);
     Ok(())
 }
 
 #[test]
 fn words_name_their_classes(rt: HostRuntime) -> Result<(), Fail> {
-    for at in 0..15 {
-        let Some((class, _)) = ancestors(at) else {
-            break;
-        };
-        assert_eq!(rt; class_named(class_name(class)), Some(class));
+    let mut lines = 0u32;
+    for line in LINEAGES.lines() {
+        let (word, class) = first(line).ok_or("no class")?;
+        assert_eq!(rt; class_name(class), word);
+        lines = lines.saturating_add(1);
     }
-    assert_eq!(rt; class_named("keyerror"), None);
-    assert_eq!(rt; class_named("KeyError "), None);
-    assert_eq!(rt; class_named(""), None);
+    assert_eq!(rt; lines, 15);
+    for other in ["keyerror", "KeyError ", ""] {
+        assert_eq!(rt; class_named(other), None, "{other}");
+    }
     Ok(())
 }
