@@ -1,5 +1,5 @@
 -- What texts made of other texts are, and how long they are.
-use Rattle.std.proofs.Common.{◌≡◌, ◌≢◌, ◌↔◌, ◌∙◌, ◌+◌, ◌-◌, ◌*◌, ◌<◌, ◌≤◌, ℕ, zero, suc, Bool, true, false, List, [], ◌∷◌, ◌++◌, None, if◌then◌else◌, length, take, drop, get_or, replicate, sym, refl, ap, arith, append_assoc, append-nil, add-one, suc-mul, zero-mul, ◌/◌, ◌%◌, length-append, lt_of_not-le}
+use Rattle.std.proofs.Common.{◌≡◌, ◌≢◌, ◌↔◌, ◌∙◌, ◌+◌, ◌-◌, ◌*◌, ◌<◌, ◌≤◌, ℕ, zero, suc, Bool, true, false, List, [], ◌∷◌, ◌++◌, None, if◌then◌else◌, length, map, take, drop, get_or, replicate, sym, refl, ap, arith, append_assoc, append-nil, add-one, suc-mul, zero-mul, ◌/◌, ◌%◌, length-append, lt_of_not-le}
 use Rattle.std.proofs.lemmas.Bool.{iff_false}
 use Rattle.std.proofs.lemmas.List.{length-replicate, nil_from_length, replicate-append-replicate, take-replicate, take_rest}
 use Rattle.std.proofs.lemmas.Nat.{div-add-mod', le-div}
@@ -7,7 +7,7 @@ use Rattle.std.proofs.Math.Nat.{mod-lt, mul-le-mul}
 use Rattle.std.specs.Str.{chars}
 use Rattle.std.proofs.lemmas.Str.{chars-nil}
 use Rattle.tx_text.specs.Text.{between, first_place, is_sign, joined, part_of, pieces, repeated, replaced, zeros_behind}
-use Rattle.tx_text.specs.Laws.{IsFirstSplit}
+use Rattle.tx_text.specs.Laws.{IsFirstSplit, ReplaceLaw, ZerosLaw, cut_everywhere}
 use Rattle.tx_text.proofs.Pieces.{joined-cons, joined-pieces, pieces_cut, pieces_from-some, pieces_uncut}
 
 -- ---- limits
@@ -217,3 +217,35 @@ room_enough old new text len part step most some l p s room =
     let most_new : k * length new ≤ length text / length old * length new = mul-le-mul most_cuts (omega arith) in
     let room2 : length text / length old * length new + length text ≤ most = rw (l, p, s) at room in
     omega (arith, room2, most_new, length-replaced old new text k some n)
+
+-- ---- the laws
+
+between-cut : (new text : List ℕ) → new ++ joined new (map (λ c. c ∷ []) text ++ [] ∷ []) ≡ between new text
+between-cut new [] = append-nil new
+between-cut new (c ∷ []) = ap (λ t. new ++ (c ∷ t)) (append-nil new)
+between-cut new (c ∷ d ∷ text) = ap (λ t. new ++ (c ∷ t)) (between-cut new (d ∷ text))
+
+cut_everywhere-some : (text : List ℕ) → map (λ c. c ∷ []) text ++ [] ∷ [] ≢ []
+cut_everywhere-some [] e = cc e
+cut_everywhere-some (c ∷ text) e = cc e
+
+between-joined : (new text : List ℕ) → between new text ≡ joined new (cut_everywhere text)
+between-joined new text =
+    sym (joined-cons new [] (map (λ c. c ∷ []) text ++ [] ∷ []) (cut_everywhere-some text) ∙ between-cut new text)
+
+pub replace_law : ReplaceLaw
+replace_law old new text = (λ some. sym (replaced-cons old new text some), λ none. rw none (between-joined new text))
+
+zeros_signed : (n sign : ℕ) (rest text : List ℕ) → text ≡ sign ∷ rest → is_sign sign ≡ true → zeros_behind n text ≡ sign ∷ (replicate n 48 ++ rest)
+zeros_signed n sign rest text e on = rw (e, on) refl
+
+zeros_unsigned : (n : ℕ) (text : List ℕ) → ((sign : ℕ) (rest : List ℕ) → text ≡ sign ∷ rest → is_sign sign ≡ false) → zeros_behind n text ≡ replicate n 48 ++ text
+zeros_unsigned n [] off = sym (append-nil (replicate n 48))
+zeros_unsigned n (c ∷ text) off = rw (off c text refl) refl
+
+pub zeros_law : ZerosLaw
+zeros_law zeros text = record {
+  count = sym (length-zeros_behind zeros text);
+  signed = λ sign rest e on. zeros_signed zeros sign rest text e on;
+  unsigned = λ off. zeros_unsigned zeros text off;
+}

@@ -10,9 +10,9 @@ use Rattle.std.proofs.lemmas.List.{length_push, take-append-drop, length-take, l
 use Rattle.std.proofs.lemmas.List.Sums.{prefix_len_passes, prefix_len_stops, suffix_len-le-length, list_all-from_AllPass}
 use Rattle.std.proofs.lemmas.List.Folds.{length-prefix_len}
 use Rattle.std.proofs.lemmas.Str.{encodes-chars, chars_from_encodes, cons_from_encodes, IsUtf8-drop, IsCharBoundary-from_take, chars_past_char, chars-nil, chars-append}
-use Rattle.tx_text.specs.Text.{without_front, without_back, stripped}
-use Rattle.tx_text.specs.Laws.{IsStripped}
-use Rattle.tx_text.specs.declared.strip.Side.TheVariants.{Both}
+use Rattle.tx_text.specs.Text.{without_front, without_back}
+use Rattle.tx_text.specs.Laws.{IsCleanBack, IsCleanFront, StripLaw}
+use Rattle.tx_text.specs.declared.strip.Side.TheVariants.{Both, Left, Right}
 
 -- ---- one character off the front
 
@@ -107,13 +107,37 @@ back_clean p mid rest c e =
     let r : get_or (reverse mid) s c ≡ get_or mid (length mid - 1 - s) c = get_or-reverse mid s c (omega arith) in
     ap p (sym a ∙ (b ∙ (ap (λ i. get_or mid i c) (sym at) ∙ sym r))) ∙ prefix_len_stops p (reverse mid) c (omega (arith, length-reverse mid))
 
-pub strip_law : (p : ℕ → Bool) (text : List ℕ) → IsStripped p text (stripped Both p text)
-strip_law p text = record {
+all_taken : (xs : List ℕ) → take (length xs) xs ≡ xs
+all_taken [] = refl
+all_taken (x ∷ xs) = ap (λ t. x ∷ t) (all_taken xs)
+
+front_law : (p : ℕ → Bool) (text left : List ℕ) (m : ℕ) → left ≡ take m (without_front p text) → IsCleanFront p (take (prefix_len p text) text) left
+front_law p text left m e = record { such = front_all p text; clean = λ c rest h. front_clean p text rest m c (sym e ∙ h) }
+
+back_law : (p : ℕ → Bool) (mid : List ℕ) → IsCleanBack p (without_back p mid) (drop (length mid - suffix_len p mid) mid)
+back_law p mid = record { such = back_all p mid; clean = λ rest c h. back_clean p mid rest c h }
+
+pub strip_law : StripLaw
+strip_law Both p text =
+    let mid : List ℕ = without_front p text in
+    record {
+      front = take (prefix_len p text) text;
+      back = drop (length mid - suffix_len p mid) mid;
+      whole = sym (ap (λ t. take (prefix_len p text) text ++ t) (take-append-drop (length mid - suffix_len p mid) mid) ∙ take-append-drop (prefix_len p text) text);
+      front_taken = front_law p text _ (length mid - suffix_len p mid) refl;
+      back_taken = back_law p mid;
+    }
+strip_law Left p text = record {
   front = take (prefix_len p text) text;
-  back = drop (length (without_front p text) - suffix_len p (without_front p text)) (without_front p text);
-  whole = sym (ap (λ t. take (prefix_len p text) text ++ t) (take-append-drop (length (without_front p text) - suffix_len p (without_front p text)) (without_front p text)) ∙ take-append-drop (prefix_len p text) text);
-  front_taken = front_all p text;
-  back_taken = back_all p (without_front p text);
-  front_kept = λ c rest e. front_clean p text rest (length (without_front p text) - suffix_len p (without_front p text)) c e;
-  back_kept = λ rest c e. back_clean p (without_front p text) rest c e;
+  back = [];
+  whole = sym (ap (λ t. take (prefix_len p text) text ++ t) (append-nil (without_front p text)) ∙ take-append-drop (prefix_len p text) text);
+  front_taken = front_law p text _ (length (without_front p text)) (sym (all_taken (without_front p text)));
+  back_taken = refl;
+}
+strip_law Right p text = record {
+  front = [];
+  back = drop (length text - suffix_len p text) text;
+  whole = sym (take-append-drop (length text - suffix_len p text) text);
+  front_taken = refl;
+  back_taken = back_law p text;
 }

@@ -1,19 +1,17 @@
 -- The pieces of a text between the occurrences of a separator.
-use Rattle.std.proofs.Common.{◌≡◌, ◌≢◌, ◌∙◌, ◌+◌, ◌-◌, ◌==◌, ℕ, zero, suc, Bool, true, false, List, [], ◌∷◌, ◌++◌, Option, Some, None, if◌then◌else◌, option_map, length, drop, sym, refl, ap, arith, append_assoc, append-nil}
+use Rattle.std.proofs.Common.{◌≡◌, ◌≢◌, ◌∙◌, ◌+◌, ◌-◌, ◌<◌, ◌==◌, ℕ, zero, suc, Bool, true, false, List, [], ◌∷◌, ◌++◌, Option, Some, None, if◌then◌else◌, option_map, length, take, drop, length-append, take-append-drop, sym, refl, ap, subst, arith, append_assoc, append-nil}
 use Rattle.std.specs.List.{AllByRecursion}
 use Rattle.std.specs.Str.{IsUtf8, chars}
 use Rattle.std.proofs.Math.Utf8.{encodes}
 use Rattle.std.proofs.lemmas.Str.{encodes-chars}
-use Rattle.std.proofs.lemmas.Bool.{and_parts, and_from, eq-eqb, eqb-true, false_from_ne_true, true≢false}
+use Rattle.std.proofs.lemmas.Bool.{and_parts, and_from, eqb-true, false_from_ne_true, true≢false}
+use Rattle.std.proofs.lemmas.List.{length-take}
 use Rattle.std.proofs.lemmas.Option.{same_Some}
 use Rattle.tx_text.specs.Text.{begins, first_place, joined, onto_first, pieces, pieces_from}
-use Rattle.tx_text.specs.Laws.{IsFirstSplit}
+use Rattle.tx_text.specs.Laws.{EndAtFirstPlaces, FirstCutsLaw, IsFirstSplit, IsLeastPlace}
+use Rattle.tx_text.proofs.Places.{begins-append, first_place-IsLeast}
 
 -- ---- a part at the front
-
-begins-append : (part rest : List ℕ) → begins part (part ++ rest) ≡ true
-begins-append [] rest = refl
-begins-append (c ∷ part) rest = rw (eq-eqb c c refl, begins-append part rest) refl
 
 begins_splits : (part text : List ℕ) → begins part text ≡ true → text ≡ part ++ drop (length part) text
 begins_splits [] text e = refl
@@ -190,3 +188,54 @@ pub pieces_law : (sep text : List ℕ) → sep ≢ []
     → (joined sep (pieces sep text) ≡ text) × AllByRecursion (λ piece. first_place sep piece ≡ None) (pieces sep text)
 pieces_law [] text some = absurd (some refl)
 pieces_law (c ∷ part) text some = (joined-pieces_from c part 0 text, pieces_lack c part 0 text)
+
+-- ---- the pieces are the only list whose pieces end at first places
+
+at_first_places : (sep text : List ℕ) (texts : List (List ℕ)) → sep ≢ [] → EndAtFirstPlaces sep text texts → texts ≡ pieces sep text
+at_first_places sep text [] some ends = absurd ends
+at_first_places sep text (piece ∷ []) some ends = ap (λ t. t ∷ []) ends.0 ∙ sym (pieces_uncut sep text ends.1)
+at_first_places sep text (piece ∷ next ∷ texts) some ends =
+    let rest : next ∷ texts ≡ pieces sep ends.0 = at_first_places sep ends.0 (next ∷ texts) some ends.1.1 in
+    ap (λ t. piece ∷ t) rest ∙ sym (pieces_cut sep text piece ends.0 some ends.1.0)
+
+-- a text is cut at the first place of a part
+first_split_at : (sep text : List ℕ) (place : ℕ) → first_place sep text ≡ Some place
+    → IsFirstSplit sep text (take place text) (drop (length sep) (drop place text))
+first_split_at sep text place found =
+    let least : IsLeastPlace sep text (Some place) = rw found at (first_place-IsLeast sep text) in
+    record {
+      whole = sym (take-append-drop place text) ∙ ap (λ t. take place text ++ t) (begins_splits sep (drop place text) least.1.0);
+      place = found ∙ ap Some (omega (arith, length-take place text, least.0));
+    }
+
+shorter : (sep text before behind : List ℕ) → sep ≢ [] → text ≡ before ++ (sep ++ behind) → length behind < length text
+shorter [] text before behind some whole = absurd (some refl)
+shorter (c ∷ sep) text before behind some whole =
+    omega (arith, ap length whole, length-append before ((c ∷ sep) ++ behind), length-append (c ∷ sep) behind)
+
+onto_front : (sep text piece behind : List ℕ) (texts : List (List ℕ)) → texts ≢ [] → IsFirstSplit sep text piece behind
+    → EndAtFirstPlaces sep behind texts → EndAtFirstPlaces sep text (piece ∷ texts)
+onto_front sep text piece behind [] some cut ends = absurd (some refl)
+onto_front sep text piece behind (next ∷ texts) some cut ends = (behind, (cut, ends))
+
+ends_where : (sep text : List ℕ) (found : Option ℕ) → sep ≢ [] → first_place sep text ≡ found
+    → ((behind : List ℕ) → length behind < length text → EndAtFirstPlaces sep behind (pieces sep behind)) → EndAtFirstPlaces sep text (pieces sep text)
+ends_where sep text None some found rest = subst (EndAtFirstPlaces sep text) (sym (pieces_uncut sep text found)) (refl, found)
+ends_where sep text (Some place) some found rest =
+    let before : List ℕ = take place text in
+    let behind : List ℕ = drop (length sep) (drop place text) in
+    let cut : IsFirstSplit sep text before behind = first_split_at sep text place found in
+    let ends : EndAtFirstPlaces sep behind (pieces sep behind) = rest behind (shorter sep text before behind some cut.whole) in
+    subst (EndAtFirstPlaces sep text) (sym (pieces_cut sep text before behind some cut))
+    (onto_front sep text before behind (pieces sep behind) (pieces_from-some sep 0 behind) cut ends)
+
+pieces_end : (n : ℕ) (sep text : List ℕ) → sep ≢ [] → length text < n → EndAtFirstPlaces sep text (pieces sep text)
+pieces_end zero sep text some l = absurd (omega arith)
+pieces_end (suc n) sep text some l =
+    ends_where sep text (first_place sep text) some refl (λ behind less. pieces_end n sep behind some (omega arith))
+
+pub first_cuts_law : FirstCutsLaw
+first_cuts_law sep text texts some = (
+  λ is. subst (EndAtFirstPlaces sep text) (sym is) (pieces_end (suc (length text)) sep text some (omega arith)),
+  at_first_places sep text texts some,
+)

@@ -1,5 +1,5 @@
 -- Where a part stands: the least and the greatest place, and that a search of the bytes finds them.
-use Rattle.std.proofs.Common.{◌≡◌, ◌≢◌, ◌∙◌, sym, refl, ap, ap₂, subst, ℕ, zero, suc, ◌<◌, ◌≤◌, ◌==◌, Bool, true, false, true≢false, List, [], ◌∷◌, ◌++◌, Option, Some, None, option_map, if◌then◌else◌, length, take, drop, get_or, add-zero, get_or-drop, ⊎_elim, IsUtf8, IsCharBoundary, arith, length-append, take-append-drop, take_at, drop_at}
+use Rattle.std.proofs.Common.{◌≡◌, ◌∙◌, sym, refl, ap, ap₂, subst, ℕ, zero, suc, ◌<◌, ◌≤◌, ◌==◌, Bool, true, false, true≢false, List, [], ◌∷◌, ◌++◌, Option, Some, None, option_map, if◌then◌else◌, length, take, drop, get_or, add-zero, get_or-drop, ⊎_elim, IsUtf8, IsCharBoundary, arith, length-append, take-append-drop, take_at, drop_at}
 use Rattle.std.specs.Str.{chars}
 use Rattle.std.specs.Str.Pattern.{LacksTextAt, HasTextAt}
 use Rattle.std.proofs.Math.Utf8.{encode, encodes}
@@ -190,5 +190,3 @@ module _ (p s : List ℕ) (up : IsUtf8 p) (us : IsUtf8 s) where
     first_split_by_bytes lacks = record { whole = whole_chars; place = first_by_bytes lacks }
 
 -- a part with bytes has characters
-pub some_chars : (p : List ℕ) → IsUtf8 p → p ≢ [] → chars p ≢ []
-some_chars p u some e = some (sym (encodes-chars p u) ∙ ap encodes e)

@@ -16,10 +16,14 @@ begins [] text = true
 begins (c ∷ part) [] = false
 begins (c ∷ part) (x ∷ text) = (c == x) && begins part text
 
+-- "ab" begins "abc", and "b" does not
+
 -- the first place where a part stands (`str.find`)
 abbrev pub first_place : List ℕ → List ℕ → Option ℕ
 first_place part [] = if begins part [] then Some 0 else None
 first_place part (x ∷ text) = if begins part (x ∷ text) then Some 0 else option_map suc (first_place part text)
+
+-- of "b" in "abab" it is 1, and of "" it is 0
 
 -- the later of a place in the rest and this one
 abbrev pub later_place : Bool → Option ℕ → Option ℕ
@@ -31,6 +35,8 @@ abbrev pub last_place : List ℕ → List ℕ → Option ℕ
 last_place part [] = if begins part [] then Some 0 else None
 last_place part (x ∷ text) = later_place (begins part (x ∷ text)) (last_place part text)
 
+-- of "b" in "abab" it is 3, and of "" in "ab" it is 2
+
 -- ---- order: by code points, and a text before its continuations (`<` on texts)
 
 abbrev pub less : List ℕ → List ℕ → Bool
@@ -38,6 +44,8 @@ less [] [] = false
 less [] (d ∷ b) = true
 less (c ∷ a) [] = false
 less (c ∷ a) (d ∷ b) = nat_lt c d || ((c == d) && less a b)
+
+-- "ab" < "abc" < "b"
 
 -- ---- pieces between occurrences from the left that do not overlap (`str.split` with a separator)
 
@@ -56,10 +64,14 @@ pieces_from sep zero (x ∷ text) =
 abbrev pub pieces : List ℕ → List ℕ → List (List ℕ)
 pieces sep text = pieces_from sep 0 text
 
+-- "a,,b" at "," is "a", "" and "b"; "aaaa" at "aaa" is "" and "a"
+
 -- how often a part stands there without overlaps (`str.count`); an empty one before each character and at the end
 abbrev pub count_of : List ℕ → List ℕ → ℕ
 count_of [] text = length text + 1
 count_of (c ∷ part) text = length (pieces (c ∷ part) text) - 1
+
+-- "aa" stands twice in "aaaaa", and "" three times in "ab"
 
 -- texts with one between them (`str.join`)
 abbrev pub joined : List ℕ → List (List ℕ) → List ℕ
@@ -67,20 +79,28 @@ joined sep [] = []
 joined sep (text ∷ []) = text
 joined sep (text ∷ next ∷ texts) = text ++ (sep ++ joined sep (next ∷ texts))
 
+-- "a" and "b" with ", " are "a, b"
+
 -- a text before each character and at the end
 abbrev pub between : List ℕ → List ℕ → List ℕ
 between new [] = new
 between new (x ∷ text) = new ++ (x ∷ between new text)
+
+-- "-" and "ab" are "-a-b-"
 
 -- each occurrence replaced (`str.replace`)
 abbrev pub replaced : List ℕ → List ℕ → List ℕ → List ℕ
 replaced [] new text = between new text
 replaced (c ∷ old) new text = joined new (pieces (c ∷ old) text)
 
+-- "a" by "xy" in "banana" is "bxynxynxy"
+
 -- a text so many times (`s * n`)
 abbrev pub repeated : ℕ → List ℕ → List ℕ
 repeated zero text = []
 repeated (suc n) text = text ++ repeated n text
+
+-- "ab" three times is "ababab"
 
 -- ---- whitespace
 
@@ -97,6 +117,8 @@ abbrev pub split_where : (ℕ → Bool) → List ℕ → List (List ℕ)
 split_where p [] = [] ∷ []
 split_where p (x ∷ text) = if p x then [] ∷ split_where p text else onto_first x (split_where p text)
 
+-- " a  b" at blanks is "", "a", "" and "b"
+
 abbrev pub is_some_text : List ℕ → Bool
 is_some_text [] = false
 is_some_text (c ∷ text) = true
@@ -104,6 +126,8 @@ is_some_text (c ∷ text) = true
 -- the pieces between runs of whitespace (`str.split` without a separator)
 abbrev pub words : List ℕ → List (List ℕ)
 words text = filter is_some_text (split_where is_blank text)
+
+-- of " a  b " they are "a" and "b"
 
 -- the characters that are taken off: whitespace, or those of a text
 abbrev pub is_taken : Option (List ℕ) → ℕ → Bool
@@ -122,6 +146,8 @@ stripped Left p text = without_front p text
 stripped Right p text = without_back p text
 stripped Both p text = without_back p (without_front p text)
 
+-- "a-a" without "a" is "-" at both sides, "-a" at the left one and "a-" at the right one
+
 -- ---- digits, and case up to U+00FF
 
 abbrev pub is_ascii : ℕ → Bool
@@ -138,6 +164,8 @@ digits_of (c ∷ text) =
     else if list_all is_ascii_digit (c ∷ text) then Some true
     else None
 
+-- "12" is, "" and "1a" are not
+
 -- zeros in front up to a width, behind a sign (`str.zfill`)
 abbrev pub is_sign : ℕ → Bool
 is_sign c = (c == 43) || (c == 45)
@@ -148,6 +176,8 @@ zeros_behind zeros (c ∷ text) = if is_sign c then c ∷ (replicate zeros 48 ++
 
 abbrev pub filled : ℕ → List ℕ → List ℕ
 filled width text = zeros_behind (width - length text) text
+
+-- "-7" at width 4 is "-007", and "12345" stays
 
 -- A to Z, and U+00C0 to U+00DE without U+00D7
 abbrev pub is_upper : ℕ → Bool

@@ -2,10 +2,12 @@
 ghost use Rattle.std.specs.Prelude.{◌≡◌, ◌≢◌, ℕ, ◌+◌, ◌*◌, ◌≤◌, [], ◌∷◌, ◌++◌, length, replicate, IfOk, OnOk, IfSome, IsTrue, ◌↔◌};
 ghost use Rattle.std.specs.Str.{chars};
 ghost use Rattle.tx_text.specs.Text.{between, filled, is_sign, joined, pieces, repeated, replaced, zeros_behind};
-ghost use Rattle.tx_text.specs.Laws.{UpTo};
+ghost use Rattle.tx_text.specs.Limits.{UpTo};
+ghost use Rattle.tx_text.specs.Laws.{ReplaceLaw, ZerosLaw};
 
+use crate::draft::Draft;
 use crate::points::{first_char, text_between};
-use crate::search::first_split;
+use crate::search::{first_split, occurrences};
 use crate::{Long, NoMemory, PyText, Texts};
 use std::alloc::Global;
 
@@ -16,13 +18,22 @@ fn sum_fits(a: usize, b: usize, most: usize) -> bool
     a <= most && b <= most - a
 }
 
-// Whether so many texts of a length, and more characters besides, are within a limit.
-fn fits(times: usize, len: usize, more: usize, most: usize) -> bool
-    ensures { IsTrue result ↔ (times * len + more ≤ most) }
-{
-    match times.checked_mul(len) {
-        Some(all) => sum_fits(all, more, most),
-        None => false,
+// How long a text will be: so many times as many characters as another has, and some besides.
+#[derive(Clone, Copy)]
+struct Planned {
+    times: usize,
+    each: usize,
+    besides: usize,
+}
+
+impl Planned {
+    fn is_within(self, most: usize) -> bool
+        ensures { IsTrue result ↔ (self.times * self.each + self.besides ≤ most) }
+    {
+        match self.times.checked_mul(self.each) {
+            Some(all) => sum_fits(all, self.besides, most),
+            None => false,
+        }
     }
 }
 
@@ -48,46 +59,44 @@ fn joined_fits(sep: &PyText, parts: &[PyText], most: usize) -> bool
     true
 }
 
-// How often a part stands in a text, without overlaps.
-fn cuts_of(text: &str, part: &str) -> usize
-    requires { part.now ≢ [] }
-    ensures { length (pieces (chars part.now) (chars text.now)) ≡ result + 1 }
-{
-    let mut cuts = 0;
-    let mut rest = text;
-    'cuts: while let Some((_, behind)) = first_split(rest, part) {
-        cuts += 1;
-        rest = behind;
-    }
-    cuts
-}
-
 // Whether a text with another in place of each occurrence of a part is within a limit. Where as many occurrences as
 // there is room for would fit, they are not counted.
-fn swapped_fits(text: &PyText, old: &PyText, new: &PyText, most: usize) -> bool
+fn replaced_fits(text: &PyText, old: &PyText, new: &PyText, most: usize) -> bool
     requires { old.now ≢ [] }
     ensures { IsTrue result ↔ (length (replaced old.now new.now text.now) ≤ most) }
 {
-    let (len, part) = (text.len(), old.len());
-    if fits(len / part, new.len(), len, most) {
+    let (len, part, each) = (text.len(), old.len(), new.len());
+    let times = len / part;
+    let at_most = Planned {
+        times,
+        each,
+        besides: len,
+    };
+    if at_most.is_within(most) {
         return true;
     }
-    let cuts = cuts_of(text.as_str(), old.as_str());
-    fits(cuts, new.len(), len - cuts * part, most)
+    let times = occurrences(text.as_str(), old.as_str());
+    let besides = len - times * part;
+    Planned {
+        times,
+        each,
+        besides,
+    }
+    .is_within(most)
 }
 
 // One text, then another.
 fn pair_of(alloc: Global, a: &str, b: &str) -> Result<PyText, NoMemory>
     ensures { IfOk result (λ t. t ≡ chars a.now ++ chars b.now) }
 {
-    let mut made = PyText::with_room(alloc, a.len().saturating_add(b.len()))?;
+    let mut made = Draft::with_room(alloc, a.len().saturating_add(b.len()))?;
     made.push_str(a)?;
     made.push_str(b)?;
-    Ok(made)
+    Ok(made.done())
 }
 
 // Adds a text so many times at the end.
-fn push_copies(made: &mut PyText, text: &str, times: usize) -> Result<(), NoMemory>
+fn push_copies(made: &mut Draft, text: &str, times: usize) -> Result<(), NoMemory>
     ensures { OnOk result (made.new ≡ made.old ++ repeated times (chars text.now)) }
 {
     'copies: for _ in 0..times {
@@ -103,9 +112,9 @@ fn copies_of(alloc: Global, text: &str, times: usize) -> Result<PyText, NoMemory
     if text.is_empty() {
         return Ok(PyText::new(alloc));
     }
-    let mut made = PyText::with_room(alloc, text.len().saturating_mul(times))?;
+    let mut made = Draft::with_room(alloc, text.len().saturating_mul(times))?;
     push_copies(&mut made, text, times)?;
-    Ok(made)
+    Ok(made.done())
 }
 
 // How many bytes the texts and a separator for each have, for the room that is taken.
@@ -120,19 +129,19 @@ fn room_of(sep: &str, parts: &[PyText]) -> usize {
 }
 
 // The texts with a separator between them.
-fn chain_of(alloc: Global, sep: &str, parts: &[PyText]) -> Result<PyText, NoMemory>
+fn joined_with(alloc: Global, sep: &str, parts: &[PyText]) -> Result<PyText, NoMemory>
     ensures { IfOk result (λ t. t ≡ joined (chars sep.now) parts.now) }
 {
     let [first, more @ ..] = parts else {
         return Ok(PyText::new(alloc));
     };
-    let mut made = PyText::with_room(alloc, room_of(sep, parts))?;
+    let mut made = Draft::with_room(alloc, room_of(sep, parts))?;
     made.push_str(first.as_str())?;
     'parts: for part in more {
         made.push_str(sep)?;
         made.push_str(part.as_str())?;
     }
-    Ok(made)
+    Ok(made.done())
 }
 
 // Whether a character is a sign, as digits have one in front.
@@ -159,7 +168,7 @@ fn zeros() -> &'static str
 }
 
 // Adds so many zeros at the end.
-fn push_zeros(made: &mut PyText, count: usize) -> Result<(), NoMemory>
+fn push_zeros(made: &mut Draft, count: usize) -> Result<(), NoMemory>
     ensures { OnOk result (made.new ≡ made.old ++ replicate count 48) }
 {
     push_copies(made, zeros(), count / 64)?;
@@ -171,27 +180,27 @@ fn push_zeros(made: &mut PyText, count: usize) -> Result<(), NoMemory>
 fn zeros_in(alloc: Global, zeros: usize, text: &str) -> Result<PyText, NoMemory>
     ensures { IfOk result (λ t. t ≡ zeros_behind zeros (chars text.now)) }
 {
-    let mut made = PyText::with_room(alloc, zeros.saturating_add(text.len()))?;
+    let mut made = Draft::with_room(alloc, zeros.saturating_add(text.len()))?;
     match sign_of(text) {
         None => {
             push_zeros(&mut made, zeros)?;
             made.push_str(text)?;
-            Ok(made)
+            Ok(made.done())
         }
         Some((sign, behind)) => {
             made.push(sign)?;
             push_zeros(&mut made, zeros)?;
             made.push_str(behind)?;
-            Ok(made)
+            Ok(made.done())
         }
     }
 }
 
 // A text before each character of another and at its end.
-fn spread_of(alloc: Global, text: &str, new: &str) -> Result<PyText, NoMemory>
+fn with_between(alloc: Global, text: &str, new: &str) -> Result<PyText, NoMemory>
     ensures { IfOk result (λ t. t ≡ between (chars new.now) (chars text.now)) }
 {
-    let mut made = PyText::new(alloc);
+    let mut made = Draft::with_room(alloc, text.len())?;
     let mut rest = text;
     'characters: while let Some((c, behind)) = first_char(rest) {
         made.push_str(new)?;
@@ -199,15 +208,18 @@ fn spread_of(alloc: Global, text: &str, new: &str) -> Result<PyText, NoMemory>
         rest = behind;
     }
     made.push_str(new)?;
-    Ok(made)
+    Ok(made.done())
 }
 
 // A text with another in place of each occurrence of a part.
-fn swapped_of(alloc: Global, text: &str, part: &str, other: &str) -> Result<PyText, NoMemory>
+fn with_replaced(alloc: Global, text: &str, part: &str, other: &str) -> Result<PyText, NoMemory>
     requires { part.now ≢ [] }
     ensures { IfOk result (λ t. t ≡ joined (chars other.now) (pieces (chars part.now) (chars text.now))) }
 {
-    let mut made = PyText::with_room(alloc, text.len())?;
+    // With room for a few short ones more, most texts are not moved as they grow.
+    let more = other.len().min(8).saturating_mul(8);
+    let room = text.len().saturating_add(more);
+    let mut made = Draft::with_room(alloc, room)?;
     let mut rest = text;
     'cuts: while let Some((before, behind)) = first_split(rest, part) {
         made.push_str(before)?;
@@ -215,7 +227,7 @@ fn swapped_of(alloc: Global, text: &str, part: &str, other: &str) -> Result<PyTe
         rest = behind;
     }
     made.push_str(rest)?;
-    Ok(made)
+    Ok(made.done())
 }
 
 impl PyText {
@@ -233,7 +245,12 @@ impl PyText {
     pub fn repeat(&self, times: usize, most: usize) -> Result<PyText, Long>
         ensures { UpTo most (repeated times self.now) result }
     {
-        if !fits(times, self.len(), 0, most) {
+        let planned = Planned {
+            times,
+            each: self.len(),
+            besides: 0,
+        };
+        if !planned.is_within(most) {
             return Err(Long::TooLong);
         }
         Ok(copies_of(self.allocator(), self.as_str(), times)?)
@@ -246,7 +263,7 @@ impl PyText {
         if !joined_fits(self, parts.as_slice(), most) {
             return Err(Long::TooLong);
         }
-        Ok(chain_of(self.allocator(), self.as_str(), parts.as_slice())?)
+        Ok(joined_with(self.allocator(), self.as_str(), parts.as_slice())?)
     }
 
     /// `str.zfill`: `"-7"` at width 4 is `"-007"`. A text that is as wide already stays as it is.
@@ -267,22 +284,38 @@ impl PyText {
         ensures { UpTo most (replaced old.now new.now self.now) result }
     {
         if old.len() == 0 {
-            return self.spread(new, most);
+            return self.replace_empty(new, most);
         }
-        if !swapped_fits(self, old, new, most) {
+        if !replaced_fits(self, old, new, most) {
             return Err(Long::TooLong);
         }
-        Ok(swapped_of(self.allocator(), self.as_str(), old.as_str(), new.as_str())?)
+        Ok(with_replaced(self.allocator(), self.as_str(), old.as_str(), new.as_str())?)
     }
 
     // The text with another before each character and at the end.
-    fn spread(&self, new: &PyText, most: usize) -> Result<PyText, Long>
+    fn replace_empty(&self, new: &PyText, most: usize) -> Result<PyText, Long>
         ensures { UpTo most (between new.now self.now) result }
     {
         let (len, step) = (self.len(), new.len());
-        if step > most || !fits(len, step, len, most - step) {
+        let planned = Planned {
+            times: len,
+            each: step,
+            besides: len,
+        };
+        if step > most || !planned.is_within(most - step) {
             return Err(Long::TooLong);
         }
-        Ok(spread_of(self.allocator(), self.as_str(), new.as_str())?)
+        Ok(with_between(self.allocator(), self.as_str(), new.as_str())?)
     }
 }
+
+/// What replacing makes is the pieces of the text with the new part between them. The empty part cuts before each
+/// character and at the end.
+pub fn replacing_is_joining()
+    ensures { ReplaceLaw }
+{}
+
+/// Filling with zeros adds so many characters, behind a sign that stays in front.
+pub fn zeros_stand_behind_the_sign()
+    ensures { ZerosLaw }
+{}

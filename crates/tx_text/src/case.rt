@@ -4,6 +4,7 @@ ghost use Rattle.std.specs.List.{list_all, list_any, flat_map};
 ghost use Rattle.std.specs.Str.{chars};
 ghost use Rattle.tx_text.specs.Text.{is_ascii, is_ascii_digit, is_latin, lower_char, upper_char, lower_of, upper_of, digits_of};
 
+use crate::draft::Draft;
 use crate::{NoMemory, PyText};
 use std::alloc::Global;
 
@@ -18,7 +19,7 @@ impl PyText {
         if !is_latin(self.as_str()) {
             return Ok(None);
         }
-        Ok(Some(lowered(self.allocator(), self.as_str())?))
+        Ok(Some(in_small_letters(self.allocator(), self.as_str())?))
     }
 
     /// The text in capitals, as `str.upper` has it: `"straße"` gives `"STRASSE"`. None where a character is above
@@ -32,7 +33,7 @@ impl PyText {
         if !is_latin(self.as_str()) {
             return Ok(None);
         }
-        Ok(Some(raised(self.allocator(), self.as_str())?))
+        Ok(Some(in_capitals(self.allocator(), self.as_str())?))
     }
 
     /// Whether all characters are digits, and there is one, as `str.isdigit` says: `"12"` is, `""` and `"1a"` are not.
@@ -52,7 +53,7 @@ fn is_latin(text: &str) -> bool
 }
 
 // The small letter of a capital up to U+00FF.
-fn small(c: char) -> char
+fn small_letter(c: char) -> char
     ensures { result ≡ lower_char c }
 {
     match c {
@@ -82,18 +83,18 @@ fn capital_ascii(alloc: Global, text: &str) -> Result<PyText, NoMemory>
 }
 
 // The text in small letters.
-fn lowered(alloc: Global, text: &str) -> Result<PyText, NoMemory>
+fn in_small_letters(alloc: Global, text: &str) -> Result<PyText, NoMemory>
     ensures { IfOk result (λ t. t ≡ flat_map (λ c. lower_char c ∷ []) (chars text.now)) }
 {
-    let mut made = PyText::with_room(alloc, text.len())?;
+    let mut made = Draft::with_room(alloc, text.len())?;
     for c in text.chars() {
-        made.push(small(c))?;
+        made.push(small_letter(c))?;
     }
-    Ok(made)
+    Ok(made.done())
 }
 
 // Adds a character's capitals at the end.
-fn push_capitals(text: &mut PyText, c: char) -> Result<(), NoMemory>
+fn push_capitals(text: &mut Draft, c: char) -> Result<(), NoMemory>
     ensures { OnOk result (text.new ≡ text.old ++ upper_char c) }
 {
     match c {
@@ -106,14 +107,14 @@ fn push_capitals(text: &mut PyText, c: char) -> Result<(), NoMemory>
 }
 
 // The text in capitals.
-fn raised(alloc: Global, text: &str) -> Result<PyText, NoMemory>
+fn in_capitals(alloc: Global, text: &str) -> Result<PyText, NoMemory>
     ensures { IfOk result (λ t. t ≡ flat_map upper_char (chars text.now)) }
 {
-    let mut made = PyText::with_room(alloc, text.len())?;
+    let mut made = Draft::with_room(alloc, text.len())?;
     for c in text.chars() {
         push_capitals(&mut made, c)?;
     }
-    Ok(made)
+    Ok(made.done())
 }
 
 // Whether some character is of ASCII and no digit.

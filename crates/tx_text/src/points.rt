@@ -2,16 +2,38 @@
 // an index.
 ghost use Rattle.std.specs.Prelude.{◌≡◌, ◌≤◌, ◌<◌, ◌-◌, ◌∷◌, [], IfSome, MatchOption, length, slice_get, take, drop};
 ghost use Rattle.std.specs.Str.{chars};
+ghost use Rattle.std.specs.List.{count_by};
 ghost use Rattle.tx_text.specs.Text.{part_of, less};
+ghost use Rattle.tx_text.specs.Calls.Store.{is_first_byte};
 
-/// How many characters a text has.
+// How many bytes begin a character: all but those that continue one.
+fn first_bytes(bytes: &[u8]) -> usize
+    ensures { result ≡ count_by is_first_byte bytes.now }
+{
+    let mut count = 0;
+    for byte in bytes {
+        if is_first_byte(*byte) {
+            count += 1;
+        }
+    }
+    count
+}
+
+// Whether a byte of UTF-8 is the first of a character.
+fn is_first_byte(byte: u8) -> bool
+    ensures { result ≡ is_first_byte byte }
+{
+    byte < 0x80 || byte >= 0xC0
+}
+
+/// How many characters a text has. They are not decoded, so that it takes no time where they differ in length.
 pub(crate) fn char_count(text: &str) -> usize
     ensures { result ≡ length (chars text.now) }
 {
     if text.is_ascii() {
         return text.len();
     }
-    text.chars().count()
+    first_bytes(text.as_bytes())
 }
 
 /// The character at a place of a text with so many characters: at once where each is one byte.
@@ -26,8 +48,9 @@ pub(crate) fn char_at(text: &str, count: usize, at: usize) -> Option<char>
     Some(char::from(*byte))
 }
 
-/// The first character of a text, and what follows it.
-pub(crate) fn first_char(text: &str) -> Option<(char, &str)>
+/// The first character of a text, and what follows it: of `"aß"` it is `'a'`, before `"ß"`. So a text is gone through by
+/// code points without an iterator to hold.
+pub fn first_char(text: &str) -> Option<(char, &str)>
     ensures value { MatchOption result (chars text.now ≡ []) (λ p. chars text.now ≡ p.0 ∷ chars p.1.now) }
     ensures shorter { IfSome result (λ p. length p.1.now < length text.now) }
 {

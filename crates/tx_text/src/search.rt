@@ -2,7 +2,7 @@
 ghost use Rattle.std.specs.Prelude.{◌≡◌, ◌≢◌, ◌<◌, ◌+◌, [], IsTrue, IsAscii, IfSome, length};
 ghost use Rattle.std.specs.Str.{chars};
 ghost use Rattle.tx_text.specs.Text.{first_place, last_place, pieces, count_of};
-ghost use Rattle.tx_text.specs.Laws.{PlacesLaw, IsFirstSplit};
+ghost use Rattle.tx_text.specs.Laws.{CountLaw, IsFirstSplit, PlacesLaw};
 
 use crate::points::char_count;
 
@@ -45,8 +45,8 @@ pub(crate) fn find_last(text: &str, count: usize, part: &str) -> Option<usize>
     Some(place_behind(front, count == text.len()))
 }
 
-/// How often a part stands in a text without overlaps.
-fn occurrences(text: &str, part: &str) -> usize
+//// How often a part stands in a text without overlaps.
+pub(crate) fn occurrences(text: &str, part: &str) -> usize
     requires { part.now ≢ [] }
     ensures { length (pieces (chars part.now) (chars text.now)) ≡ result + 1 }
 {
@@ -73,4 +73,10 @@ pub(crate) fn count_parts(text: &str, count: usize, part: &str) -> usize
 /// The place that a search answers is the least one where the part stands, and from the right the greatest.
 pub fn places_are_least_and_greatest()
     ensures { PlacesLaw }
+{}
+
+/// A part stands once less often than there are pieces around it, and the empty part before each character and at the
+/// end.
+pub fn counts_are_of_pieces()
+    ensures { CountLaw }
 {}

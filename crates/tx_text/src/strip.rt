@@ -27,23 +27,24 @@ impl PyText {
     }
 }
 
-/// What `strip` leaves of a text at both ends has no such character at either, and what it took were such characters.
+/// What `strip` leaves of a text has no such character at an end that it takes from, what it took were such characters,
+/// and at the other end it took nothing.
 pub fn stripped_ends_are_clean()
     ensures { StripLaw }
 {}
 
-// Whether a character is whitespace: Unicode's, and the four separators of ASCII.
-pub(crate) fn is_blank(c: char) -> bool
+/// Whether a character is whitespace, as `str.isspace` says: Unicode's, and the four separators of ASCII.
+pub fn is_blank(c: char) -> bool
     ensures { result ≡ is_blank c }
 {
     c.is_whitespace() || matches!(c, '\u{1C}'..='\u{1F}')
 }
 
 // Whether a character is one of a text's.
-fn has(text: &str, c: char) -> bool
-    ensures { result ≡ list_any (λ d. d == c) (chars text.now) }
+fn is_one_of(those: &str, c: char) -> bool
+    ensures { result ≡ list_any (λ d. d == c) (chars those.now) }
 {
-    text.contains(c)
+    those.contains(c)
 }
 
 // Whether a character is taken off.
@@ -52,7 +53,7 @@ fn is_taken(of: Option<&str>, c: char) -> bool
 {
     match of {
         None => is_blank(c),
-        Some(those) => has(those, c),
+        Some(those) => is_one_of(those, c),
     }
 }
 

@@ -1,10 +1,11 @@
 // A text, kept as UTF-8 and seen as its code points.
 ghost use Rattle.std.specs.Prelude.{◌≡◌, ◌↔◌, [], ◌∷◌, ◌++◌, length, OnOk, OnErr, IfOk, IsErrOf, IsUtf8, IsTrue, encode_utf8_all, slice_get, string_bytes};
 ghost use Rattle.std.specs.Str.{chars};
+ghost use Rattle.tx_text.specs.Examples.{Examples};
 ghost use Rattle.tx_text.specs.Text.{part_of, less, first_place, last_place, count_of};
 
-use crate::points::{self, char_count};
-use crate::{NoMemory, search};
+use crate::store::Store;
+use crate::{NoMemory, points, search};
 use std::alloc::Global;
 use std::convert::AsStr;
 use std::marker::Model;
@@ -19,23 +20,25 @@ pub enum Utf8Fault {
     NoMemory,
 }
 
-/// A text, seen as the list of its code points. It knows how many it has, so that `len` takes no time, and where each
-/// is one byte neither do `char_at` and `slice`.
+/// A text, seen as the list of its code points. One of up to 24 bytes stands in the value itself and takes no memory. A
+/// longer one knows how many code points it has, so that `len` takes no time, and where each is one byte neither do
+/// `char_at` and `slice`.
 #[derive(Debug, Drop)]
 pub struct PyText {
-    text: String,
-    count: usize,
+    alloc: Global,
+    store: Store,
 }
 
 impl Model for PyText {
-    ghost use Rattle.std.specs.Prelude.{◌≡◌, List, ℕ, length, string_bytes};
+    ghost use Rattle.std.specs.Prelude.{List, ℕ};
     ghost use Rattle.std.specs.Str.{chars};
+    ghost use Rattle.tx_text.specs.Calls.Store.{IsCounted, store_bytes};
 
     ghost Value = { List ℕ };
 
-    ghost view = { λ t. chars (string_bytes t.text) };
+    ghost view = { λ t. chars (store_bytes t.store) };
 
-    ghost invariant = { λ t. t.count ≡ length (chars (string_bytes t.text)) };
+    ghost invariant = { λ t. IsCounted t.store };
 }
 
 impl PyText {
@@ -44,8 +47,8 @@ impl PyText {
         ensures { result ≡ [] }
     {
         PyText {
-            text: String::new(alloc),
-            count: 0,
+            alloc,
+            store: Store::new(),
         }
     }
 
@@ -53,11 +56,8 @@ impl PyText {
     pub fn from_str(alloc: Global, s: &str) -> Result<PyText, NoMemory>
         ensures { IfOk result (λ t. t ≡ chars s.now) }
     {
-        let text = String::from_str(alloc, s)?;
-        Ok(PyText {
-            text,
-            count: char_count(s),
-        })
+        let store = Store::from_str(alloc, s)?;
+        Ok(PyText { alloc, store })
     }
 
     /// The text that bytes spell in UTF-8, as Python's `bytes.decode`.
@@ -69,11 +69,8 @@ impl PyText {
         let Ok(s) = str::from_utf8(b) else {
             return Err(Utf8Fault::NotUtf8);
         };
-        match String::from_str(alloc, s) {
-            Ok(text) => Ok(PyText {
-                text,
-                count: char_count(s),
-            }),
+        match Store::from_str(alloc, s) {
+            Ok(store) => Ok(PyText { alloc, store }),
             Err(_) => Err(Utf8Fault::NoMemory),
         }
     }
@@ -83,7 +80,7 @@ impl PyText {
         ensures bytes { result.now ≡ encode_utf8_all self.now }
         ensures chars { chars result.now ≡ self.now }
     {
-        self.text.as_str()
+        self.store.as_str()
     }
 
     /// Adds a character at the end. Where memory is refused, the text is as before.
@@ -91,9 +88,9 @@ impl PyText {
         ensures ok { OnOk result (self.new ≡ self.old ++ item ∷ []) }
         ensures err { OnErr result (self.new ≡ self.old) }
     {
-        self.text.push(item)?;
-        self.count += 1;
-        Ok(())
+        let mut buffer = [0; 4];
+        self.store
+            .push_str(self.alloc, item.encode_utf8(&mut buffer))
     }
 
     /// Adds the characters of a text at the end, or none where memory is refused.
@@ -101,23 +98,21 @@ impl PyText {
         ensures ok { OnOk result (self.new ≡ self.old ++ chars more.now) }
         ensures err { OnErr result (self.new ≡ self.old) }
     {
-        self.text.push_str(more)?;
-        self.count += char_count(more);
-        Ok(())
+        self.store.push_str(self.alloc, more)
     }
 
-    /// How many characters the text has, as Python's `len`: of `"aß€"` three. No bytes are read.
+    /// How many characters the text has, as Python's `len`: of `"aß€"` three. At most 24 bytes are read.
     pub fn len(&self) -> usize
         ensures { result ≡ length self.now }
     {
-        self.count
+        self.store.count()
     }
 
     /// The character at a place, as Python's `text[at]` for a place from the front: of `"aß€"` at 1 it is `'ß'`.
     pub fn char_at(&self, at: usize) -> Option<char>
         ensures { result ≡ slice_get self.now at }
     {
-        points::char_at(self.text.as_str(), self.count, at)
+        points::char_at(self.as_str(), self.len(), at)
     }
 
     /// The characters from a place to before another, as Python's `text[from:to]` for places from the front: of
@@ -125,69 +120,68 @@ impl PyText {
     pub fn slice(&self, from: usize, to: usize) -> Result<PyText, NoMemory>
         ensures { IfOk result (λ t. t ≡ part_of from to self.now) }
     {
-        let end = to.min(self.count);
+        let count = self.len();
+        let end = to.min(count);
         let start = from.min(end);
-        let part = points::text_between(self.text.as_str(), self.count, start, end);
-        let text = String::from_str(*self.text.allocator(), part)?;
-        Ok(PyText {
-            text,
-            count: end - start,
-        })
+        PyText::from_str(
+            self.alloc,
+            points::text_between(self.as_str(), count, start, end),
+        )
     }
 
     /// Whether two texts have the same characters, as Python's `==`.
     pub fn equal(&self, b: &PyText) -> bool
         ensures { IsTrue result ↔ (self.now ≡ b.now) }
     {
-        self.text.as_str() == b.text.as_str()
+        self.as_str() == b.as_str()
     }
 
     /// Whether this text comes before another, as Python's `<`: `"a"` comes before `"ab"` and before `"é"`.
     pub fn less(&self, b: &PyText) -> bool
         ensures { result ≡ less self.now b.now }
     {
-        points::comes_before(self.text.as_str(), b.text.as_str())
+        points::comes_before(self.as_str(), b.as_str())
     }
 
     /// The first place where a part stands, as Python's `str.find`: of `"b"` in `"abab"` it is 1.
     pub fn find(&self, part: &PyText) -> Option<usize>
         ensures { result ≡ first_place part.now self.now }
     {
-        search::find_first(self.text.as_str(), self.count, part.text.as_str())
+        search::find_first(self.as_str(), self.len(), part.as_str())
     }
 
     /// The last place where a part stands, as Python's `str.rfind`: of `"b"` in `"abab"` it is 3.
     pub fn rfind(&self, part: &PyText) -> Option<usize>
         ensures { result ≡ last_place part.now self.now }
     {
-        search::find_last(self.text.as_str(), self.count, part.text.as_str())
+        search::find_last(self.as_str(), self.len(), part.as_str())
     }
 
     /// How often a part stands in the text without overlaps, as Python's `str.count`: of `"aa"` in `"aaaaa"` twice.
     pub fn count(&self, part: &PyText) -> usize
         ensures { result ≡ count_of part.now self.now }
     {
-        search::count_parts(self.text.as_str(), self.count, part.text.as_str())
-    }
-
-    // The empty text with room for so many bytes, for one who then adds at most that much.
-    pub(crate) fn with_room(alloc: Global, bytes: usize) -> Result<PyText, NoMemory>
-        ensures { IfOk result (λ t. t ≡ []) }
-    {
-        let text = String::with_capacity(alloc, bytes)?;
-        Ok(PyText { text, count: 0 })
+        search::count_parts(self.as_str(), self.len(), part.as_str())
     }
 
     // The text of a string.
     pub(crate) fn of_string(text: String) -> PyText
         ensures { result ≡ chars (string_bytes text) }
     {
-        let count = char_count(text.as_str());
-        PyText { text, count }
+        let alloc = *text.allocator();
+        PyText {
+            alloc,
+            store: Store::of_string(text),
+        }
     }
 
     // The allocator that the text keeps.
     pub(crate) fn allocator(&self) -> Global {
-        *self.text.allocator()
+        self.alloc
     }
 }
+
+/// The examples that stand behind the definitions of texts are true.
+pub fn examples_hold()
+    ensures { Examples }
+{}

@@ -5,4 +5,4 @@ pub text_between-requires-clause-counted : goal.text_between-requires-clause-cou
 text_between-requires-clause-counted c = zeros_long _ c.zeros-2.ensures
 
 pub returns : goal.returns
-returns c = zeros_are c.args.count _ _ c.args.made.now _ _ _ c.zeros.ensures c.zeros-2.ensures c.in_ok-push_copies.ensures c.text_between.ensures c.in_ok-push_str.ensures.ok
+returns c = zeros_are c.args.count _ _ c.args.made.now _ _ _ c.zeros.ensures c.zeros-2.ensures c.in_ok-push_copies.ensures c.text_between.ensures c.in_ok-push_str.ensures

@@ -2,7 +2,7 @@ use Rattle.std.proofs.Common.{◌∙◌, sym, arith}
 use Rattle.std.specs.Str.{chars}
 use Rattle.tx_text.proofs.Counting.{count_of-empty, count_of-pieces, not_empty}
 use Rattle.tx_text.proofs.OneByte.{length-chars-le}
-use Rattle.tx_text.proofs.Places.{some_chars}
+use Rattle.tx_text.proofs.Pieces.{chars-some}
 use Rattle.tx_text.proofs.search.count_parts.Goals as goal
 
 pub overflow_add-result : goal.overflow_add-result
@@ -13,4 +13,4 @@ returns-then-is_empty c = count_of-empty c.args.part.now c.args.text.now c.args.
 
 pub returns : goal.returns
 returns c =
-    count_of-pieces (chars c.args.part.now) (chars c.args.text.now) c.occurrences.result (some_chars c.args.part.now c.utf8.part (not_empty c.args.part.now (sym c.is_empty.ensures ∙ c.if-is_empty.false))) c.occurrences.ensures
+    count_of-pieces (chars c.args.part.now) (chars c.args.text.now) c.occurrences.result (chars-some c.args.part.now c.utf8.part (not_empty c.args.part.now (sym c.is_empty.ensures ∙ c.if-is_empty.false))) c.occurrences.ensures
