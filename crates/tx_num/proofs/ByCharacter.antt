@@ -7,7 +7,7 @@ use Rattle.std.proofs.lemmas.Bool.{eqb-true, ne_eqb, true≢false, leb-true, agr
 use Rattle.tx_text.specs.Text.{is_ascii_digit, is_blank, stripped, without_back, without_front}
 use Rattle.tx_text.specs.declared.strip.Side.TheVariants.{Both}
 use Rattle.tx_num.specs.ReadInt.{is_outside, read_digits, read_signed, value_read, with_sign}
-use Rattle.tx_num.specs.Reading.{any_rest_read, goes_on, longer_read, number_read, rest_read}
+use Rattle.tx_num.specs.Calls.Reading.{any_rest_read, goes_on, longer_read, number_read, rest_read}
 use Rattle.tx_num.specs.declared.read.IntRead.{IntRead}
 use Rattle.tx_num.specs.declared.read.IntRead.TheVariants.{NotInt, Past, OutOfProfile}
 use Rattle.tx_num.specs.declared.reading.Reading.{Reading}

@@ -4,7 +4,7 @@ use Rattle.std.specs.List.{list_all}
 use Rattle.std.proofs.lemmas.Bool.{cases_Bool, eqb-false, eqb-true, ne_eqb}
 use Rattle.tx_text.specs.Text.{is_ascii_digit, onto_first, pieces_from}
 use Rattle.tx_num.specs.ReadInt.{is_digits, is_number, read_digits}
-use Rattle.tx_num.specs.Reading.{goes_on, longer_read, number_read}
+use Rattle.tx_num.specs.Calls.Reading.{goes_on, longer_read, number_read}
 use Rattle.tx_num.specs.declared.read.IntRead.TheVariants.{NotInt}
 
 -- the first piece may be without digits where a digit stands right before it

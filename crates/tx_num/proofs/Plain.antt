@@ -13,7 +13,7 @@ use Rattle.std.proofs.lemmas.Str.{chars-IsAscii}
 use Rattle.std.proofs.lemmas.Str.Parse.{digit_from_value}
 use Rattle.tx_text.specs.Text.{is_ascii_digit, is_blank, stripped, without_back}
 use Rattle.tx_text.specs.declared.strip.Side.TheVariants.{Both}
-use Rattle.tx_num.specs.Reading.{goes_on}
+use Rattle.tx_num.specs.Calls.Reading.{goes_on}
 use Rattle.tx_num.proofs.Groups.{number_goes_on}
 use Rattle.tx_num.specs.ReadInt.{is_number, is_outside, read_digits, read_int, read_signed, value_read, with_sign}
 use Rattle.tx_num.specs.Laws.{PrintedLaw}

@@ -1,11 +1,11 @@
 // Integers read from texts.
-ghost use Rattle.std.specs.Prelude.{◌≡◌, ◌∷◌, ◌<◌, ◌||◌, ◌&&◌, [], length, IfSome, MatchOption};
+ghost use Rattle.std.specs.Prelude.{◌≡◌};
 ghost use Rattle.std.specs.Str.{chars};
 ghost use Rattle.ucd_category.specs.GeneralCategory.{general_category};
 ghost use Rattle.tx_num.specs.ReadInt.{is_decimal_number, is_outside, read_int};
 
 use crate::reading::{Reading, answer, read_on};
-use tx_text::PyText;
+use tx_text::{PyText, first_char};
 use ucd_category::GeneralCategory;
 
 /// What a text gives as an integer.
@@ -23,8 +23,8 @@ pub enum IntRead {
 }
 
 /// The integer that a text writes, as Python's `int`: whitespace at the ends, an optional sign, and digits with single
-/// underscores between them. `" +1_000 "` gives 1000, and `"1.5"` is no integer. It goes over the text once and takes no
-/// memory.
+/// underscores between them. `" +1_000 "` gives 1000, and `"1.5"` is no integer. It takes no memory. A plain integer of 64
+/// bits is read in one go over the text, and any other text in one go more.
 pub fn read_int(t: &PyText) -> IntRead
     ensures { result ≡ read_int t.now }
 {
@@ -33,18 +33,6 @@ pub fn read_int(t: &PyText) -> IntRead
     match text.parse::<i64>() {
         Ok(n) => IntRead::Value(n as i128),
         Err(_) => read_text(text),
-    }
-}
-
-// The first character of a text, and what follows it.
-fn first_char(text: &str) -> Option<(char, &str)>
-    ensures value { MatchOption result (chars text.now ≡ []) (λ p. chars text.now ≡ p.0 ∷ chars p.1.now) }
-    ensures shorter { IfSome result (λ p. length p.1.now < length text.now) }
-{
-    let mut rest = text.chars();
-    match rest.next() {
-        None => None,
-        Some(c) => Some((c, rest.as_str())),
     }
 }
 

@@ -2,9 +2,10 @@
 // of the text then gives what the character and the rest gave before.
 ghost use Rattle.std.specs.Prelude.{◌≡◌, ◌∷◌, [], Bool, List, ℕ, true};
 ghost use Rattle.tx_text.specs.Text.{is_ascii_digit, is_blank, without_back};
-ghost use Rattle.tx_num.specs.Reading.{longer_read, number_read, rest_read};
+ghost use Rattle.tx_num.specs.Calls.Reading.{longer_read, number_read, rest_read};
 
 use crate::IntRead;
+use tx_text::is_blank;
 
 /// What the front of a text was read as.
 #[derive(Clone, Copy)]
@@ -25,17 +26,10 @@ pub(crate) enum Reading {
 // The size of the least number. A size above it is past 128 bits with either sign.
 const MOST: u128 = 0x8000_0000_0000_0000_0000_0000_0000_0000;
 
-// Whether a character is whitespace: Unicode's, and the four separators of ASCII.
-fn is_blank(c: char) -> bool
-    ensures { result ≡ is_blank c }
-{
-    c.is_whitespace() || matches!(c, '\u{1C}'..='\u{1F}')
-}
-
 // A size with one digit more, or none where it is past 128 bits. Digits that follow only make it larger, so it stays
 // none.
 #[tactic(auto, using(crate::proofs::ByCharacter::past_longer))]
-fn longer(size: Option<u128>, digit: char) -> Option<u128>
+fn with_digit(size: Option<u128>, digit: char) -> Option<u128>
     requires { is_ascii_digit digit ≡ true }
     ensures { (negative : Bool) (digits : List ℕ) → longer_read negative result digits ≡ longer_read negative size (digit ∷ digits) }
 {
@@ -60,13 +54,13 @@ fn signed(negative: bool, size: Option<u128>) -> IntRead
 
 // A character behind a sign, digits and underscores.
 #[tactic(auto, using(crate::proofs::ByCharacter::behind_a_number))]
-fn number_on(negative: bool, size: Option<u128>, after_digit: bool, c: char) -> Reading
+fn behind_number(negative: bool, size: Option<u128>, after_digit: bool, c: char) -> Reading
     ensures { (rest : List ℕ) → rest_read result rest ≡ number_read negative size after_digit (without_back is_blank (c ∷ rest)) }
 {
     if c.is_ascii_digit() {
         return Reading::Number {
             negative,
-            size: longer(size, c),
+            size: with_digit(size, c),
             after_digit: true,
         };
     }
@@ -88,7 +82,7 @@ fn number_on(negative: bool, size: Option<u128>, after_digit: bool, c: char) -> 
 
 // A character behind whitespace.
 #[tactic(auto, using(crate::proofs::ByCharacter::behind_whitespace))]
-fn begun(c: char) -> Reading
+fn behind_whitespace(c: char) -> Reading
     ensures { (rest : List ℕ) → rest_read result rest ≡ rest_read Reading.Blank (c ∷ rest) }
 {
     if is_blank(c) {
@@ -108,7 +102,7 @@ fn begun(c: char) -> Reading
             after_digit: false,
         };
     }
-    number_on(false, Some(0), false, c)
+    behind_number(false, Some(0), false, c)
 }
 
 /// What is read with one character more.
@@ -116,12 +110,12 @@ pub(crate) fn read_on(reading: Reading, c: char) -> Reading
     ensures { (rest : List ℕ) → rest_read result rest ≡ rest_read reading (c ∷ rest) }
 {
     match reading {
-        Reading::Blank => begun(c),
+        Reading::Blank => behind_whitespace(c),
         Reading::Number {
             negative,
             size,
             after_digit,
-        } => number_on(negative, size, after_digit, c),
+        } => behind_number(negative, size, after_digit, c),
         Reading::Done(_) if is_blank(c) => reading,
         Reading::Done(_) => Reading::Done(IntRead::NotInt),
     }

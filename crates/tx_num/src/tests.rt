@@ -1,249 +1,262 @@
-// The answers are CPython's, except where a text is out of the profile.
+// Calls and their answers, a row each: a call, what it is given, and its answer, with `;` between them. A line feed in a
+// text is written `¶`. The answers are CPython's, except where a number is past 128 bits or a text out of the profile.
 use crate::{Division, IntRead, add, floor_div, floor_mod, mul, neg, print_int, read_int, sub};
+use std::alloc::Global;
+use std::process::Abort;
 use std::test::Fail;
-use tx_text::PyText;
+use tx_text::{NoMemory, PyText};
 
-// A text, and what it is read as: which forms are integers.
-fn form_case(at: usize) -> Option<(&'static str, IntRead)> {
-    match at {
-        0 => Some(("0", IntRead::Value(0))),
-        1 => Some(("-0", IntRead::Value(0))),
-        2 => Some(("+0", IntRead::Value(0))),
-        3 => Some(("7", IntRead::Value(7))),
-        4 => Some(("-12", IntRead::Value(-12))),
-        5 => Some(("007", IntRead::Value(7))),
-        6 => Some((" +1_000 ", IntRead::Value(1000))),
-        7 => Some(("\t\n\u{B}\u{C}\r 5", IntRead::Value(5))),
-        8 => Some(("5\t\n\u{B}\u{C}\r ", IntRead::Value(5))),
-        9 => Some(("\u{85}\u{A0}6\u{A0}\u{85}", IntRead::Value(6))),
-        10 => Some((
-            "\u{1680}\u{2000}\u{200A}\u{2028}\u{2029}\u{202F}\u{205F}\u{3000}8\u{3000}",
-            IntRead::Value(8),
-        )),
-        11 => Some(("1_2_3", IntRead::Value(123))),
-        12 => Some(("", IntRead::NotInt)),
-        13 => Some(("   ", IntRead::NotInt)),
-        14 => Some(("+", IntRead::NotInt)),
-        15 => Some(("-", IntRead::NotInt)),
-        16 => Some(("+-1", IntRead::NotInt)),
-        17 => Some(("- 1", IntRead::NotInt)),
-        18 => Some(("--1", IntRead::NotInt)),
-        19 => Some(("1-", IntRead::NotInt)),
-        20 => Some(("1__0", IntRead::NotInt)),
-        21 => Some(("1_", IntRead::NotInt)),
-        22 => Some(("_1", IntRead::NotInt)),
-        23 => Some(("+_1", IntRead::NotInt)),
-        24 => Some(("1 2", IntRead::NotInt)),
-        25 => Some(("1.5", IntRead::NotInt)),
-        26 => Some(("1e3", IntRead::NotInt)),
-        27 => Some(("0x10", IntRead::NotInt)),
-        28 => Some(("12a", IntRead::NotInt)),
-        29 => Some(("a12", IntRead::NotInt)),
-        30 => Some(("1,000", IntRead::NotInt)),
-        31 => Some(("\u{200B}1", IntRead::NotInt)),
-        32 => Some(("\u{FEFF}1", IntRead::NotInt)),
-        33 => Some(("1\u{180E}", IntRead::NotInt)),
-        34 => Some(("\u{B2}", IntRead::NotInt)),
-        35 => Some(("\u{2160}", IntRead::NotInt)),
-        36 => Some(("\u{4E00}", IntRead::NotInt)),
-        37 => Some(("\u{2212}1", IntRead::NotInt)),
-        _ => None,
+/// Texts, and the integers that they are read as: forms, the ends of 128 bits, long texts, and texts out of the profile.
+const READS: &str = "\
+int;0;0
+int;-0;0
+int;+0;0
+int;7;7
+int;-12;-12
+int;007;7
+int; +1_000 ;1000
+int;\t¶\u{B}\u{C}\r 5;5
+int;5\t¶\u{B}\u{C}\r ;5
+int;\u{85}\u{A0}6\u{A0}\u{85};6
+int;\u{1680}\u{2000}\u{200A}\u{2028}\u{2029}\u{202F}\u{205F}\u{3000}8\u{3000};8
+int;1_2_3;123
+int;;ValueError
+int;   ;ValueError
+int;+;ValueError
+int;-;ValueError
+int;+-1;ValueError
+int;- 1;ValueError
+int;--1;ValueError
+int;1-;ValueError
+int;1__0;ValueError
+int;1_;ValueError
+int;_1;ValueError
+int;+_1;ValueError
+int;1 2;ValueError
+int;1.5;ValueError
+int;1e3;ValueError
+int;0x10;ValueError
+int;12a;ValueError
+int;a12;ValueError
+int;1,000;ValueError
+int;\u{200B}1;ValueError
+int;\u{FEFF}1;ValueError
+int;1\u{180E};ValueError
+int;\u{B2};ValueError
+int;\u{2160};ValueError
+int;\u{4E00};ValueError
+int;\u{2212}1;ValueError
+int;170141183460469231731687303715884105727;170141183460469231731687303715884105727
+int;170141183460469231731687303715884105728;past
+int;-170141183460469231731687303715884105728;-170141183460469231731687303715884105728
+int;-170141183460469231731687303715884105729;past
+int;+170141183460469231731687303715884105727;170141183460469231731687303715884105727
+int; -170141183460469231731687303715884105728 ;-170141183460469231731687303715884105728
+int;9999999999999999999999999999999999999999;past
+int;-9999999999999999999999999999999999999999;past
+int;00000000000000000000000000000000000000000000000000000000000042;42
+int;-00000000000000000000000000000000000000000000000000000000000042;-42
+int;0_0_0_0_0_0_0_0_0_0_0_0_0_0_0_0_0_0_0_0_0_0_0_0_0_0_0_0_0_0_7;7
+int;9999999999999999999999999999999999999999_;ValueError
+int;9999999999999999999999999999999999999999x;ValueError
+int;100000000000000000000000000000000000000;100000000000000000000000000000000000000
+int;1000000000000000000000000000000000000000;past
+int;\u{1C}1;outside
+int;1\u{1F};outside
+int;\u{1E};outside
+int;a\u{1D}b;outside
+int;\u{663};outside
+int;\u{661}\u{662};outside
+int;1\u{FF11};outside
+int;x\u{966};outside
+int;\u{1D7CE};outside
+";
+
+/// Dividends, divisors, and quotients or remainders, at the ends of 128 bits too.
+const DIVISIONS: &str = "\
+floor_div;7;2;3
+floor_mod;7;2;1
+floor_div;-7;2;-4
+floor_mod;-7;2;1
+floor_div;7;-2;-4
+floor_mod;7;-2;-1
+floor_div;-7;-2;3
+floor_mod;-7;-2;-1
+floor_div;6;3;2
+floor_mod;6;3;0
+floor_div;-6;3;-2
+floor_mod;-6;3;0
+floor_div;6;-3;-2
+floor_mod;6;-3;0
+floor_div;-6;-3;2
+floor_mod;-6;-3;0
+floor_div;0;5;0
+floor_mod;0;5;0
+floor_div;0;-5;0
+floor_mod;0;-5;0
+floor_div;1;3;0
+floor_mod;1;3;1
+floor_div;-1;3;-1
+floor_mod;-1;3;2
+floor_div;1;-3;-1
+floor_mod;1;-3;-2
+floor_div;-1;-3;0
+floor_mod;-1;-3;-1
+floor_div;5;0;zero
+floor_mod;5;0;zero
+floor_div;0;0;zero
+floor_mod;0;0;zero
+floor_div;-170141183460469231731687303715884105728;0;zero
+floor_mod;-170141183460469231731687303715884105728;0;zero
+floor_div;-170141183460469231731687303715884105728;-1;past
+floor_mod;-170141183460469231731687303715884105728;-1;0
+floor_div;-170141183460469231731687303715884105728;1;-170141183460469231731687303715884105728
+floor_mod;-170141183460469231731687303715884105728;1;0
+floor_div;170141183460469231731687303715884105727;-1;-170141183460469231731687303715884105727
+floor_mod;170141183460469231731687303715884105727;-1;0
+floor_div;170141183460469231731687303715884105727;1;170141183460469231731687303715884105727
+floor_mod;170141183460469231731687303715884105727;1;0
+floor_div;-170141183460469231731687303715884105728;170141183460469231731687303715884105727;-2
+floor_mod;-170141183460469231731687303715884105728;170141183460469231731687303715884105727;170141183460469231731687303715884105726
+floor_div;170141183460469231731687303715884105727;-170141183460469231731687303715884105728;-1
+floor_mod;170141183460469231731687303715884105727;-170141183460469231731687303715884105728;-1
+floor_div;-170141183460469231731687303715884105728;-170141183460469231731687303715884105728;1
+floor_mod;-170141183460469231731687303715884105728;-170141183460469231731687303715884105728;0
+floor_div;-170141183460469231731687303715884105728;2;-85070591730234615865843651857942052864
+floor_mod;-170141183460469231731687303715884105728;2;0
+floor_div;170141183460469231731687303715884105727;-2;-85070591730234615865843651857942052864
+floor_mod;170141183460469231731687303715884105727;-2;-1
+";
+
+/// Results at the ends of 128 bits.
+const ENDS: &str = "\
+add;170141183460469231731687303715884105727;0;170141183460469231731687303715884105727
+add;170141183460469231731687303715884105727;1;past
+add;-170141183460469231731687303715884105728;-1;past
+sub;-1;-170141183460469231731687303715884105728;170141183460469231731687303715884105727
+sub;0;-170141183460469231731687303715884105728;past
+mul;-85070591730234615865843651857942052864;2;-170141183460469231731687303715884105728
+mul;-85070591730234615865843651857942052864;-2;past
+neg;170141183460469231731687303715884105727;;-170141183460469231731687303715884105727
+neg;-170141183460469231731687303715884105728;;past
+";
+
+/// Integers and their texts.
+const PRINTS: &str = "\
+str;0;0
+str;-1;-1
+str;170141183460469231731687303715884105727;170141183460469231731687303715884105727
+str;-170141183460469231731687303715884105728;-170141183460469231731687303715884105728
+";
+
+// The cell of a row at a place, empty where the row has fewer.
+fn cell(row: &str, at: usize) -> &str {
+    row.split(';').nth(at).unwrap_or("")
+}
+
+// The integer of a cell.
+fn number(cell: &str) -> Option<i128> {
+    cell.parse::<i128>().ok()
+}
+
+// The text of a cell.
+fn own(alloc: Global, cell: &str) -> Result<PyText, NoMemory> {
+    let mut lines = cell.split('¶');
+    let mut text = PyText::from_str(alloc, lines.next().unwrap_or(""))?;
+    for line in lines {
+        text.push('\n')?;
+        text.push_str(line)?;
+    }
+    Ok(text)
+}
+
+fn is_read(read: IntRead, cell: &str) -> bool {
+    match read {
+        IntRead::Value(n) => number(cell) == Some(n),
+        IntRead::NotInt => cell == "ValueError",
+        IntRead::Past => cell == "past",
+        IntRead::OutOfProfile => cell == "outside",
     }
 }
 
-// A text, and what it is read as: the ends of 128 bits, and long texts.
-fn range_case(at: usize) -> Option<(&'static str, IntRead)> {
-    match at {
-        0 => Some((
-            "170141183460469231731687303715884105727",
-            IntRead::Value(i128::MAX),
-        )),
-        1 => Some(("170141183460469231731687303715884105728", IntRead::Past)),
-        2 => Some((
-            "-170141183460469231731687303715884105728",
-            IntRead::Value(i128::MIN),
-        )),
-        3 => Some(("-170141183460469231731687303715884105729", IntRead::Past)),
-        4 => Some((
-            "+170141183460469231731687303715884105727",
-            IntRead::Value(i128::MAX),
-        )),
-        5 => Some((
-            " -170141183460469231731687303715884105728 ",
-            IntRead::Value(i128::MIN),
-        )),
-        6 => Some(("9999999999999999999999999999999999999999", IntRead::Past)),
-        7 => Some(("-9999999999999999999999999999999999999999", IntRead::Past)),
-        8 => Some((
-            "00000000000000000000000000000000000000000000000000000000000042",
-            IntRead::Value(42),
-        )),
-        9 => Some((
-            "-00000000000000000000000000000000000000000000000000000000000042",
-            IntRead::Value(-42),
-        )),
-        10 => Some((
-            "0_0_0_0_0_0_0_0_0_0_0_0_0_0_0_0_0_0_0_0_0_0_0_0_0_0_0_0_0_0_7",
-            IntRead::Value(7),
-        )),
-        11 => Some(("9999999999999999999999999999999999999999_", IntRead::NotInt)),
-        12 => Some(("9999999999999999999999999999999999999999x", IntRead::NotInt)),
-        13 => Some((
-            "100000000000000000000000000000000000000",
-            IntRead::Value(100000000000000000000000000000000000000),
-        )),
-        14 => Some(("1000000000000000000000000000000000000000", IntRead::Past)),
-        _ => None,
+fn is_divided(division: Division, cell: &str) -> bool {
+    match division {
+        Division::Value(n) => number(cell) == Some(n),
+        Division::Zero => cell == "zero",
+        Division::Past => cell == "past",
     }
 }
 
-// A text out of the profile.
-fn outside_case(at: usize) -> Option<(&'static str, IntRead)> {
-    match at {
-        0 => Some(("\u{1C}1", IntRead::OutOfProfile)),
-        1 => Some(("1\u{1F}", IntRead::OutOfProfile)),
-        2 => Some(("\u{1E}", IntRead::OutOfProfile)),
-        3 => Some(("a\u{1D}b", IntRead::OutOfProfile)),
-        4 => Some(("\u{663}", IntRead::OutOfProfile)),
-        5 => Some(("\u{661}\u{662}", IntRead::OutOfProfile)),
-        6 => Some(("1\u{FF11}", IntRead::OutOfProfile)),
-        7 => Some(("x\u{966}", IntRead::OutOfProfile)),
-        8 => Some(("\u{1D7CE}", IntRead::OutOfProfile)),
-        _ => None,
+fn is_kept(sum: Option<i128>, cell: &str) -> bool {
+    match sum {
+        Some(n) => number(cell) == Some(n),
+        None => cell == "past",
     }
+}
+
+// Whether a call of two integers gives its answer.
+fn result_holds(call: &str, a: i128, b: i128, answer: &str) -> bool {
+    match call {
+        "add" => is_kept(add(a, b), answer),
+        "sub" => is_kept(sub(a, b), answer),
+        "mul" => is_kept(mul(a, b), answer),
+        "neg" => is_kept(neg(a), answer),
+        "floor_div" => is_divided(floor_div(a, b), answer),
+        "floor_mod" => is_divided(floor_mod(a, b), answer),
+        _ => false,
+    }
+}
+
+// Whether a row holds.
+fn holds(alloc: Global, row: &str) -> Result<bool, NoMemory> {
+    let (call, given) = (cell(row, 0), cell(row, 1));
+    if call == "int" {
+        return Ok(is_read(read_int(&own(alloc, given)?), cell(row, 2)));
+    }
+    let a = number(given).unwrap_or(0);
+    if call == "str" {
+        return Ok(print_int(alloc, a)?.as_str() == cell(row, 2));
+    }
+    let b = number(cell(row, 2)).unwrap_or(0);
+    Ok(result_holds(call, a, b, cell(row, 3)))
+}
+
+// Asserts that each row of a table holds, and that there are so many.
+fn each_row_holds(
+    rt: &impl Abort,
+    alloc: Global,
+    table: &str,
+    rows: usize,
+) -> Result<(), NoMemory> {
+    let mut tried = 0usize;
+    for row in table.lines() {
+        assert!(rt; holds(alloc, row)?, "{row}");
+        tried = tried.wrapping_add(1);
+    }
+    assert!(rt; tried == rows, "{tried} rows");
+    Ok(())
 }
 
 #[test]
 fn texts_are_read_as_integers(rt: HostRuntime) -> Result<(), Fail> {
-    for at in 0..38 {
-        for case in [form_case(at), range_case(at), outside_case(at)] {
-            if let Some((text, wanted)) = case {
-                let text = PyText::from_str(rt.alloc(), text)?;
-                assert_eq!(rt; read_int(&text), wanted, "case {at}");
-            }
-        }
-    }
+    each_row_holds(&rt, rt.alloc(), READS, 62)?;
     Ok(())
 }
 
-// A dividend, a divisor, the quotient and the remainder.
-fn division_case(at: usize) -> Option<(i128, i128, Division, Division)> {
-    match at {
-        0 => Some((7, 2, Division::Value(3), Division::Value(1))),
-        1 => Some((-7, 2, Division::Value(-4), Division::Value(1))),
-        2 => Some((7, -2, Division::Value(-4), Division::Value(-1))),
-        3 => Some((-7, -2, Division::Value(3), Division::Value(-1))),
-        4 => Some((6, 3, Division::Value(2), Division::Value(0))),
-        5 => Some((-6, 3, Division::Value(-2), Division::Value(0))),
-        6 => Some((6, -3, Division::Value(-2), Division::Value(0))),
-        7 => Some((-6, -3, Division::Value(2), Division::Value(0))),
-        8 => Some((0, 5, Division::Value(0), Division::Value(0))),
-        9 => Some((0, -5, Division::Value(0), Division::Value(0))),
-        10 => Some((1, 3, Division::Value(0), Division::Value(1))),
-        11 => Some((-1, 3, Division::Value(-1), Division::Value(2))),
-        12 => Some((1, -3, Division::Value(-1), Division::Value(-2))),
-        13 => Some((-1, -3, Division::Value(0), Division::Value(-1))),
-        _ => None,
-    }
-}
-
-// The same by 0, and at the ends of 128 bits.
-fn wide_division_case(at: usize) -> Option<(i128, i128, Division, Division)> {
-    match at {
-        0 => Some((5, 0, Division::Zero, Division::Zero)),
-        1 => Some((0, 0, Division::Zero, Division::Zero)),
-        2 => Some((i128::MIN, 0, Division::Zero, Division::Zero)),
-        3 => Some((i128::MIN, -1, Division::Past, Division::Value(0))),
-        4 => Some((i128::MIN, 1, Division::Value(i128::MIN), Division::Value(0))),
-        5 => Some((
-            i128::MAX,
-            -1,
-            Division::Value(-170141183460469231731687303715884105727),
-            Division::Value(0),
-        )),
-        6 => Some((i128::MAX, 1, Division::Value(i128::MAX), Division::Value(0))),
-        7 => Some((
-            i128::MIN,
-            i128::MAX,
-            Division::Value(-2),
-            Division::Value(170141183460469231731687303715884105726),
-        )),
-        8 => Some((
-            i128::MAX,
-            i128::MIN,
-            Division::Value(-1),
-            Division::Value(-1),
-        )),
-        9 => Some((i128::MIN, i128::MIN, Division::Value(1), Division::Value(0))),
-        10 => Some((
-            i128::MIN,
-            2,
-            Division::Value(-85070591730234615865843651857942052864),
-            Division::Value(0),
-        )),
-        11 => Some((
-            i128::MAX,
-            -2,
-            Division::Value(-85070591730234615865843651857942052864),
-            Division::Value(-1),
-        )),
-        _ => None,
-    }
+#[test]
+fn division_rounds_down(rt: HostRuntime) -> Result<(), Fail> {
+    each_row_holds(&rt, rt.alloc(), DIVISIONS, 52)?;
+    Ok(())
 }
 
 #[test]
-fn division_rounds_down(rt: HostRuntime) {
-    for at in 0..14 {
-        for case in [division_case(at), wide_division_case(at)] {
-            if let Some((a, b, quotient, remainder)) = case {
-                assert_eq!(rt; floor_div(a, b), quotient, "case {at}");
-                assert_eq!(rt; floor_mod(a, b), remainder, "case {at}");
-            }
-        }
-    }
-}
-
-// A result, and what it is.
-fn end_case(at: usize) -> Option<(Option<i128>, Option<i128>)> {
-    match at {
-        0 => Some((add(i128::MAX, 0), Some(i128::MAX))),
-        1 => Some((add(i128::MAX, 1), None)),
-        2 => Some((add(i128::MIN, -1), None)),
-        3 => Some((sub(-1, i128::MIN), Some(i128::MAX))),
-        4 => Some((sub(0, i128::MIN), None)),
-        5 => Some((
-            mul(-85070591730234615865843651857942052864, 2),
-            Some(i128::MIN),
-        )),
-        6 => Some((mul(-85070591730234615865843651857942052864, -2), None)),
-        7 => Some((
-            neg(i128::MAX),
-            Some(-170141183460469231731687303715884105727),
-        )),
-        8 => Some((neg(i128::MIN), None)),
-        _ => None,
-    }
-}
-
-#[test]
-fn results_end_at_128_bits(rt: HostRuntime) {
-    for at in 0..9 {
-        if let Some((result, wanted)) = end_case(at) {
-            assert_eq!(rt; result, wanted, "case {at}");
-        }
-    }
+fn results_end_at_128_bits(rt: HostRuntime) -> Result<(), Fail> {
+    each_row_holds(&rt, rt.alloc(), ENDS, 9)?;
+    Ok(())
 }
 
 #[test]
 fn integers_are_printed(rt: HostRuntime) -> Result<(), Fail> {
-    for (n, wanted) in [
-        (0, "0"),
-        (-1, "-1"),
-        (i128::MAX, "170141183460469231731687303715884105727"),
-        (i128::MIN, "-170141183460469231731687303715884105728"),
-    ] {
-        let text = print_int(rt.alloc(), n)?;
-        assert!(rt; text.as_str() == wanted);
-    }
+    each_row_holds(&rt, rt.alloc(), PRINTS, 4)?;
     Ok(())
 }

@@ -3,7 +3,7 @@ use denote.Shadow.{shadow}
 use denote.Text.{Utf8}
 use Rattle.std.specs.Str.{chars}
 use Rattle.tx_num.specs.ReadInt.{read_int}
-use Rattle.tx_num.specs.Reading.{any_rest_read}
+use Rattle.tx_num.specs.Calls.Reading.{any_rest_read}
 use Rattle.tx_num.proofs.read.read_text.Given as goal
 
 abbrev pub invariant-characters : goal.invariant-characters
