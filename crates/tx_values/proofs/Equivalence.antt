@@ -1,15 +1,17 @@
 -- Equality is reflexive and transitive, and symmetric where the keys of the first value are pairwise unequal.
-use Rattle.std.proofs.Common.{◌≡◌, inl, inr, ℕ, ℤ, Bool, true, false, not, ◌&&◌, ◌||◌, List, [], ◌∷◌, length, map, refl, sym, subst, ◌∙◌}
+use Rattle.std.proofs.Common.{◌≡◌, inl, inr, ℕ, ℤ, Bool, true, false, not, ◌&&◌, ◌||◌, List, [], ◌∷◌, length, refl, sym, subst, ◌∙◌}
 use Rattle.std.specs.List.{AllByRecursion, list_any, list_all}
 use Rattle.std.specs.Ordering.{int_eq}
-use Rattle.tx_values.specs.declared.value.Value.{Value, roll-Value, map-Value, para-roll-Value}
+use Rattle.tx_values.specs.declared.value.Value.{Value, roll-Value}
 use Rattle.tx_values.specs.declared.value.Value.TheOpen.{Value-F}
 use Rattle.tx_values.specs.declared.value.Value.TheOpen as v
-use Rattle.tx_values.specs.Equality.{equal, equal_all, same_text, number_of}
-use Rattle.tx_values.specs.Valid.{Parts, Told, told_all, told_pairs, told_keys, keyed, keyed_step, hashable, distinct}
-use Rattle.tx_values.proofs.Induct.{induct, by_layer}
-use Rattle.tx_values.proofs.Pigeons.{Any, each_map, any_both, any_meets, NoneShared, Apart, Placed, Had, covered}
-use Rattle.tx_values.proofs.Same.{Yes, both, first, second, no_yes, int_same, int_itself, text_same, text_itself, same, rolled, Pair, Like, as_long, placed_of, dict_of}
+use Rattle.tx_values.specs.Equality.{equal, same_text, number_of}
+use Rattle.tx_values.specs.Calls.Lists.{equal_all}
+use Rattle.tx_values.specs.Valid.{Parts, told_keys, keyed, hashable, distinct}
+use Rattle.tx_values.proofs.Induction.{induct, by_layer}
+use Rattle.tx_values.proofs.KeyedLayers.{keyed_all, keyed_layer, keyed_pairs, keyed_rolled, told_of}
+use Rattle.tx_values.proofs.Pigeonhole.{Any, each_map, any_both, any_meets, NoneShared, Apart, Placed, Had, covered}
+use Rattle.tx_values.proofs.EqualityLemmas.{Yes, both, first, second, no_yes, int_same, int_itself, text_same, text_itself, same, rolled, Pair, Like, as_long, placed_of, dict_of}
 
 -- ---- reflexive
 
@@ -98,24 +100,11 @@ transitive = induct Passes (λ x h. by_layer (λ b. (c : Value) → Yes (equal (
 
 -- ---- symmetric
 
--- whether a list, pairs and a layer are keyed
-abbrev keyed_all : List Value → Bool
-keyed_all xs = told_all (map (λ x. (x, keyed x)) xs)
-
-abbrev told_of : List Pair → List (Told × Told)
-told_of ps = map (λ p. ((p.0, keyed p.0), (p.1, keyed p.1))) ps
-
-abbrev keyed_pairs : List Pair → Bool
-keyed_pairs ps = told_pairs (told_of ps)
-
 abbrev pair_keys : List Pair → List Value
 pair_keys ps = told_keys (told_of ps)
 
 abbrev hashable_keys : List Pair → Bool
 hashable_keys ps = list_all hashable (pair_keys ps)
-
-abbrev keyed_layer : Value-F Value → Bool
-keyed_layer x = keyed_step (map-Value Value Told (λ y. (y, keyed y)) x)
 
 abbrev Turns : Value → Type 0
 Turns a = Yes (keyed a) → (b : Value) → Yes (equal a b) → Yes (equal b a)
@@ -181,4 +170,4 @@ turn _ h k _ e = no_yes e
 
 pub symmetric : (a : Value) → Yes (keyed a) → (b : Value) → Yes (equal a b) → Yes (equal b a)
 symmetric = induct Turns (λ x h k. by_layer (λ b. Yes (equal (roll-Value x) b) → Yes (equal b (roll-Value x)))
-    (λ y e. rolled y x ∙ turn x h (sym (para-roll-Value Bool keyed_step x) ∙ k) y (sym (rolled x y) ∙ e)))
+    (λ y e. rolled y x ∙ turn x h (sym (keyed_rolled x) ∙ k) y (sym (rolled x y) ∙ e)))

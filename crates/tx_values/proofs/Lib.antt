@@ -1,10 +1,17 @@
+-- Induction over values.
+pub mod Induction
+-- Equality, layer by layer and pair by pair, and that it is an equivalence on valid values.
+pub mod Pigeonhole
+pub mod EqualityLemmas
+pub mod KeyedLayers
 pub mod Equivalence
-pub mod Induct
-pub mod Keyed
-pub mod Layers
-pub mod Ordered
-pub mod Orders
-pub mod Pigeons
-pub mod Same
-pub mod Validity
-pub mod Within
+-- Weight, depth and validity.
+pub mod DepthLemmas
+pub mod PartsAreLess
+pub mod ValidityByParts
+-- Keys.
+pub mod KeysFollowEquality
+-- The order.
+pub mod OrderLemmas
+pub mod OrderIsTotal
+pub mod OrderRespectsEquality

@@ -1,6 +1,6 @@
 -- Equality and truth of values (Python Language Reference, "Value comparisons" and "Boolean operations"). Equality is one
 -- step over a layer of the first value, whose parts are already tests, and a layer of the second.
-use Rattle.std.specs.Prelude.{ℕ, Bool, true, false, not, ◌&&◌, ◌==◌, nat_eq, List, [], ◌∷◌, length, map, ℤ, pos}
+use Rattle.std.specs.Prelude.{ℕ, Bool, true, false, not, ◌&&◌, ◌==◌, nat_eq, List, [], ◌∷◌, length, ℤ, pos}
 use Rattle.std.specs.List.{list_any, list_all}
 use Rattle.std.specs.Ordering.{int_eq}
 use Rattle.std.specs.Cmp.Lexicographic.{pointwise}
@@ -42,13 +42,6 @@ equal_open _ _ = false
 -- `a == b`
 abbrev pub equal : Value → Value → Bool
 equal = fold-Value Test (λ x b. equal_open x (out-Value b))
-
-abbrev pub equal_all : List Value → List Value → Bool
-equal_all xs ys = pointwise (λ test item. test item) (map equal xs) ys
-
--- each pair of the first list has its like in the second
-abbrev pub all_within : List (Value × Value) → List (Value × Value) → Bool
-all_within ps qs = list_all (has_pair qs) (map (λ p. (equal p.0, equal p.1)) ps)
 
 -- ---- truth
 

@@ -1,7 +1,8 @@
 -- What holds of the definitions alone.
-use Rattle.std.specs.Prelude.{◌≡◌, ◌⊎◌, ◌↔◌, ◌<◌, ◌&&◌, Bool, true, false, map, Ok}
+use Rattle.std.specs.Prelude.{◌≡◌, ◌⊎◌, ◌↔◌, ◌<◌, ◌&&◌, Bool, true, false, List, map, Ok}
 use Rattle.std.specs.List.{list_all}
 use Rattle.tx_base.specs.Width.{is_128_bit}
+use Rattle.tx_values.specs.declared.key.Atom.{Atom}
 use Rattle.tx_values.specs.declared.value.Value.{Value, out-Value}
 use Rattle.tx_values.specs.declared.value.Value.TheOpen.{Value-F}
 use Rattle.tx_values.specs.declared.value.Value.TheOpen as v
@@ -40,6 +41,10 @@ TransitiveLaw = (a b c : Value) → equal a b ≡ true → equal b c ≡ true �
 -- of hashable values the keys are equal exactly where the values are
 abbrev pub KeysLaw : Type 0
 KeysLaw = (a b : Value) → hashable a ≡ true → hashable b ≡ true → same_key (key_of a) (key_of b) ≡ equal a b
+
+-- two keys are the same exactly where their atoms are the same list
+abbrev pub SameKeyLaw : Type 0
+SameKeyLaw = (a b : List Atom) → (same_key a b ≡ true) ↔ (a ≡ b)
 
 -- and the keys of equal values hash alike
 abbrev pub HashLaw : Type 0
@@ -81,6 +86,14 @@ TrichotomyLaw Is = (a b : Value) → Is a → Is b → Compared a b
 
 abbrev pub LessTransitiveLaw : (Value → Type 0) → Type 0
 LessTransitiveLaw Is = (a b c : Value) → Is a → Is b → Is c → less a b ≡ Ok true → less b c ≡ Ok true → less a c ≡ Ok true
+
+-- ---- the order does not tell equal values apart, where the keys of the first are hashable and pairwise unequal
+
+abbrev pub LessLeftLaw : Type 0
+LessLeftLaw = (a b c : Value) → keyed a ≡ true → equal a b ≡ true → less a c ≡ less b c
+
+abbrev pub LessRightLaw : Type 0
+LessRightLaw = (a b c : Value) → keyed a ≡ true → equal a b ≡ true → less c a ≡ less c b
 
 -- ---- a part weighs less than the whole, and is less deep
 

@@ -1,5 +1,5 @@
 -- The weight and the depth of a value, and the limits of both.
-use Rattle.std.specs.Prelude.{ℕ, ◌+◌, max, Bool, ◌&&◌, if◌then◌else◌, List, [], ◌∷◌, length, map, nat_le, Result, Ok, Err}
+use Rattle.std.specs.Prelude.{ℕ, ◌+◌, max, Bool, ◌&&◌, if◌then◌else◌, List, [], ◌∷◌, length, nat_le, Result, Ok, Err}
 use Rattle.tx_base.specs.declared.class.Class.{Class}
 use Rattle.tx_base.specs.declared.class.Class.TheVariants.{ProfileError}
 use Rattle.tx_values.specs.declared.value.Value.{Value, fold-Value}
@@ -31,12 +31,6 @@ weight_step (v.Dict pairs) = weight_of_pairs pairs
 abbrev pub weight : Value → ℕ
 weight = fold-Value ℕ weight_step
 
-abbrev pub weight_all : List Value → ℕ
-weight_all items = weight_of_items (map weight items)
-
-abbrev pub weight_pairs : List (Value × Value) → ℕ
-weight_pairs pairs = weight_of_pairs (map (λ p. (weight p.0, weight p.1)) pairs)
-
 -- ---- depth: 0 of a scalar, and of a container one more than the greatest of its parts
 
 abbrev pub greatest_of : List ℕ → ℕ
@@ -55,12 +49,6 @@ depth_step _ = 0
 
 abbrev pub depth : Value → ℕ
 depth = fold-Value ℕ depth_step
-
-abbrev pub depth_all : List Value → ℕ
-depth_all items = greatest_of (map depth items)
-
-abbrev pub depth_pairs : List (Value × Value) → ℕ
-depth_pairs pairs = greatest_in (map (λ p. (depth p.0, depth p.1)) pairs)
 
 -- ---- limits
 

@@ -1,5 +1,5 @@
 -- The order of values (Python Language Reference, "Value comparisons"): a truth value, or TypeError.
-use Rattle.std.specs.Prelude.{Bool, true, false, if◌then◌else◌, List, [], ◌∷◌, map, Result, Ok, Err, int_lt}
+use Rattle.std.specs.Prelude.{Bool, true, false, if◌then◌else◌, List, [], ◌∷◌, Result, Ok, Err, int_lt}
 use Rattle.tx_base.specs.declared.class.Class.{Class}
 use Rattle.tx_base.specs.declared.class.Class.TheVariants.{TypeError}
 use Rattle.tx_text.specs.Text as text
@@ -36,6 +36,3 @@ less_open _ _ = Err TypeError
 -- `a < b`
 abbrev pub less : Value → Value → Answer
 less = para-Value (Value → Answer) (λ x b. less_open x (out-Value b))
-
-abbrev pub less_all : List Value → List Value → Answer
-less_all xs ys = less_items (map (λ x. (x, less x)) xs) ys

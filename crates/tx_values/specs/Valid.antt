@@ -25,9 +25,6 @@ hashable_step _ = true
 abbrev pub hashable : Value → Bool
 hashable = fold-Value Bool hashable_step
 
-abbrev pub hashable_all : List Value → Bool
-hashable_all items = list_all (λ b. b) (map hashable items)
-
 -- no two are equal
 abbrev pub distinct : List Value → Bool
 distinct [] = true

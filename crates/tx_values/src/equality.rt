@@ -1,13 +1,14 @@
 // Equality and truth.
 ghost use Rattle.std.specs.Prelude.{◌≡◌};
-ghost use Rattle.tx_values.specs.Equality.{equal, equal_all, all_within, same_text, truthy};
+ghost use Rattle.tx_values.specs.Equality.{equal, same_text, truthy};
+ghost use Rattle.tx_values.specs.Calls.Lists.{equal_all, all_within};
 
 use crate::Value;
 use tx_text::PyText;
 
 /// Whether two values are equal, as Python's `==`: `True == 1`, `(1,) == (True,)`, `[] != ()`. It takes no memory and
 /// holds for every value, also for a dictionary with repeated keys; of two dictionaries it looks for each pair of the
-/// first in turn in the second.
+/// first in the second, at its own place first: in the same order n pairs take n comparisons, else at most n for each.
 #[cycle(equal)]
 pub fn equal(a: &Value, b: &Value) -> bool
     ensures { result ≡ equal a.now b.now }
@@ -71,13 +72,15 @@ fn equal_all(xs: &[Value], ys: &[Value]) -> bool
 fn all_within(ps: &[(Value, Value)], qs: &[(Value, Value)]) -> bool
     ensures { result ≡ all_within ps.now qs.now }
 {
-    for p in ps {
-        let mut found = false;
+    for i in 0..ps.len() {
+        let p = &ps[i];
+        // Dictionaries are mostly in one order, so the same place is tried first.
+        let mut found = i < qs.len() && equal(&p.0, &qs[i].0) && equal(&p.1, &qs[i].1);
         for q in qs {
-            if equal(&p.0, &q.0) && equal(&p.1, &q.1) {
-                found = true;
+            if found {
                 break;
             }
+            found = equal(&p.0, &q.0) && equal(&p.1, &q.1);
         }
         if !found {
             return false;

@@ -1,9 +1,11 @@
 // Keys: a hashable value as a flat list of atoms, which is equal and hashes alike where the value is equal.
-ghost use Rattle.std.specs.Prelude.{◌≡◌, ◌++◌, true, false, IfOk, OnOk, Err};
+ghost use Rattle.std.specs.Prelude.{◌≡◌, [], ◌∷◌, ◌++◌, true, false, IfOk, OnOk, Err};
 ghost use Rattle.std.proofs.Common.{ap};
 ghost use Rattle.std.specs.Cmp.{partial_equiv_from_equiv};
-ghost use Rattle.tx_values.specs.Keys.{atom_decides, atom_equiv, atom_input, key_decides, key_equiv, key_input, key_of, keys_of, same_atom, same_key};
-ghost use Rattle.tx_values.specs.Valid.{hashable, hashable_all};
+ghost use Rattle.tx_values.specs.Calls.KeyLaws.{atom_decides, atom_equiv, key_decides, key_equiv};
+ghost use Rattle.tx_values.specs.Keys.{atom_input, key_input, key_of, same_atom, same_key};
+ghost use Rattle.tx_values.specs.Calls.Lists.{keys_of, hashable_all};
+ghost use Rattle.tx_values.specs.Valid.{hashable};
 
 use crate::copying::copy_text;
 use crate::{OpError, Value};
@@ -51,35 +53,28 @@ impl Hash for Atom {
     fn hash<H: Hasher>(&self, state: &mut H) {
         match self {
             Atom::Nil => state.write_u8(0),
-            Atom::Int(n) => {
-                state.write_u8(1);
-                n.hash(state);
-            }
-            Atom::Text(text) => {
-                state.write_u8(2);
-                text.as_str().hash(state);
-            }
-            Atom::Tuple(len) => {
-                state.write_u8(3);
-                len.hash(state);
-            }
+            Atom::Int(n) => n.hash(state),
+            Atom::Text(text) => text.as_str().hash(state),
+            Atom::Tuple(len) => len.hash(state),
         }
     }
 }
 
-/// A hashable value as a key of a hash map. Contracts see its atoms.
+/// A hashable value as a key of a hash map. Contracts see its atoms. Its first atom lies in it, so the key of a scalar
+/// takes no memory of its own, a long text aside.
 #[derive(Drop)]
 pub struct Key {
-    atoms: Sequence<Atom>,
+    first: Atom,
+    rest: Sequence<Atom>,
 }
 
 impl Model for Key {
-    ghost use Rattle.std.specs.Prelude.{List};
+    ghost use Rattle.std.specs.Prelude.{List, ◌∷◌};
     ghost use Rattle.tx_values.specs.declared.key.Atom.{Atom};
 
     ghost Value = { List Atom };
 
-    ghost view = { λ k. k.atoms };
+    ghost view = { λ k. k.first ∷ k.rest };
 }
 
 impl PartialEq for Key {
@@ -88,7 +83,7 @@ impl PartialEq for Key {
     ghost laws = { partial_equiv_from_equiv key_equiv };
 
     fn eq(&self, other: &Key) -> bool {
-        self.atoms.as_slice() == other.atoms.as_slice()
+        self.first == other.first && self.rest.as_slice() == other.rest.as_slice()
     }
 }
 
@@ -102,7 +97,8 @@ impl Hash for Key {
     ghost respects_eq = { λ x y t. ap key_input ((key_decides x y).0 t) };
 
     fn hash<H: Hasher>(&self, state: &mut H) {
-        self.atoms.as_slice().hash(state);
+        self.first.hash(state);
+        Atom::hash_slice(self.rest.as_slice(), state);
     }
 }
 
@@ -160,18 +156,53 @@ fn add_all(items: &[Value], atoms: &mut Sequence<Atom>) -> Result<(), NoMemory>
     Ok(())
 }
 
+fn key_of_scalar(alloc: Global, first: Atom) -> Key
+    ensures { result ≡ first ∷ [] }
+{
+    Key {
+        first,
+        rest: Sequence::new(alloc),
+    }
+}
+
+fn atoms_with_room(alloc: Global, count: usize) -> Result<Vec<Atom>, NoMemory>
+    ensures { IfOk result (λ atoms. atoms.items ≡ []) }
+{
+    Ok(Vec::with_capacity(alloc, count)?)
+}
+
 /// The key of a value, or TypeError exactly where it is not hashable. Keys are equal exactly where their values are, and
 /// equal keys hash alike (`keys_follow_equality`): `True` and `1` are one key.
 pub fn key_of(alloc: Global, a: &Value) -> Result<Key, OpError>
     ensures key { IfOk result (λ k. k ≡ key_of a.now) }
     ensures hashable { OnOk result (hashable a.now ≡ true) }
     ensures unhashable { hashable a.now ≡ false → result ≡ Err (OpError.Raise Class.TypeError) }
-    ensures raise { (raised : Class) → result ≡ Err (OpError.Raise raised) → (raised ≡ Class.TypeError) × (hashable a.now ≡ false) }
+    ensures raise { (class : Class) → result ≡ Err (OpError.Raise class) → (class ≡ Class.TypeError) × (hashable a.now ≡ false) }
 {
-    if !hashable(a) {
+    match a {
+        Value::Nil => Ok(key_of_scalar(alloc, Atom::Nil)),
+        Value::Truth(b) => Ok(key_of_scalar(alloc, Atom::Int(i128::from(*b)))),
+        Value::Int(n) => Ok(key_of_scalar(alloc, Atom::Int(*n))),
+        Value::Text(text) => Ok(key_of_scalar(alloc, Atom::Text(copy_text(text)?))),
+        Value::Tuple(items) => key_of_items(alloc, items.as_slice()),
+        Value::List(_) | Value::Dict(_) => Err(OpError::Raise(Class::TypeError)),
+    }
+}
+
+/// The key of the tuple of these values, which need lie in no tuple, as the cells of a row.
+pub fn key_of_items(alloc: Global, items: &[Value]) -> Result<Key, OpError>
+    ensures key { IfOk result (λ k. k ≡ key_of (Value.Tuple items.now)) }
+    ensures hashable { OnOk result (hashable (Value.Tuple items.now) ≡ true) }
+    ensures unhashable { hashable (Value.Tuple items.now) ≡ false → result ≡ Err (OpError.Raise Class.TypeError) }
+    ensures raise { (class : Class) → result ≡ Err (OpError.Raise class) → (class ≡ Class.TypeError) × (hashable (Value.Tuple items.now) ≡ false) }
+{
+    if !hashable_all(items) {
         return Err(OpError::Raise(Class::TypeError));
     }
-    let mut atoms = Sequence::new(alloc);
-    add_atoms(a, &mut atoms)?;
-    Ok(Key { atoms })
+    let mut rest = Sequence::from_vec(atoms_with_room(alloc, items.len())?);
+    add_all(items, &mut rest)?;
+    Ok(Key {
+        first: Atom::Tuple(items.len()),
+        rest,
+    })
 }

@@ -12,10 +12,10 @@ mod value;
 
 pub use copying::copy;
 pub use equality::{equal, truthy};
-pub use key::{Key, hashable, key_of};
+pub use key::{Key, hashable, key_of, key_of_items};
 pub use laws::{
-    equality_is_an_equivalence, keys_follow_equality, numbers_and_texts_are_in_order,
-    parts_are_less, validity_goes_by_parts,
+    equality_is_an_equivalence, keys_follow_equality, less_respects_equal,
+    numbers_and_texts_are_in_order, parts_are_less, validity_goes_by_parts,
 };
 pub use limits::{MOST_DEPTH, MOST_WEIGHT, depth, made, weight};
 pub use order::less;

@@ -1,6 +1,7 @@
 // The weight and the depth of a value, and the limits of both.
 ghost use Rattle.std.specs.Prelude.{◌≡◌, ◌+◌, ◌-◌, ◌^◌, min};
-ghost use Rattle.tx_values.specs.Limits.{weight, weight_all, weight_pairs, depth, depth_all, depth_pairs, made};
+ghost use Rattle.tx_values.specs.Limits.{weight, depth, made};
+ghost use Rattle.tx_values.specs.Calls.Lists.{weight_all, weight_pairs, depth_all, depth_pairs};
 
 use crate::Value;
 use tx_base::Class;
@@ -54,7 +55,7 @@ fn weight_pairs(pairs: &[(Value, Value)]) -> u64
 }
 
 /// How deep a value goes: 0 for a scalar, 1 for `[]`, 2 for `[[]]`. A depth past the type's last value stands there.
-#[tactic(auto, using(crate::proofs::Layers::depth_dict))]
+#[tactic(auto, using(crate::proofs::DepthLemmas::depth_dict))]
 #[cycle(depth)]
 pub fn depth(a: &Value) -> u32
     ensures { result ≡ min (depth a.now) (2 ^ 32 - 1) }

@@ -1,6 +1,7 @@
 // Order.
 ghost use Rattle.std.specs.Prelude.{◌≡◌, Err};
-ghost use Rattle.tx_values.specs.Order.{less, less_all};
+ghost use Rattle.tx_values.specs.Order.{less};
+ghost use Rattle.tx_values.specs.Calls.Lists.{less_all};
 
 use crate::{Value, equal};
 use tx_base::Class;
@@ -8,11 +9,11 @@ use tx_base::Class;
 /// Whether a value comes before another, as Python's `<`: numbers among each other, texts by code points, tuples with
 /// tuples and lists with lists by their first unequal items and then by their lengths. All else is TypeError, as
 /// `(1, "a") < (1, 2)`.
-#[tactic(auto, using(crate::proofs::Orders::less_laws, crate::proofs::Orders::less_kinds))]
+#[tactic(auto, using(crate::proofs::OrderLemmas::less_laws, crate::proofs::OrderLemmas::less_kinds))]
 #[cycle(less)]
 pub fn less(a: &Value, b: &Value) -> Result<bool, Class>
     ensures value { result ≡ less a.now b.now }
-    ensures raise { (raised : Class) → result ≡ Err raised → raised ≡ Class.TypeError }
+    ensures raise { (class : Class) → result ≡ Err class → class ≡ Class.TypeError }
 {
     match a {
         Value::Truth(x) => match b {
@@ -41,11 +42,11 @@ pub fn less(a: &Value, b: &Value) -> Result<bool, Class>
     }
 }
 
-#[tactic(auto, using(crate::proofs::Orders::less_laws))]
+#[tactic(auto, using(crate::proofs::OrderLemmas::less_laws))]
 #[cycle(less)]
 fn less_all(xs: &[Value], ys: &[Value]) -> Result<bool, Class>
     ensures value { result ≡ less_all xs.now ys.now }
-    ensures raise { (raised : Class) → result ≡ Err raised → raised ≡ Class.TypeError }
+    ensures raise { (class : Class) → result ≡ Err class → class ≡ Class.TypeError }
 {
     for i in 0..xs.len() {
         if i >= ys.len() {

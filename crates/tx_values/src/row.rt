@@ -131,8 +131,8 @@ impl Model for Rows {
 }
 
 impl Rows {
-    /// The greatest number of rows of a list.
-    pub const MOST: usize = 4_294_967_295;
+    /// The greatest number of rows of a list: a row's number is a `u32`.
+    pub const MOST: usize = u32::MAX as usize;
 
     /// The empty list, which takes no memory yet.
     pub fn new(alloc: Global) -> Self
@@ -175,6 +175,9 @@ impl Rows {
         self.rows.push(item)
     }
 }
+
+// A smaller number would refuse rows that a list is to hold.
+const _: () = prove!(Rows::MOST == 4_294_967_295);
 
 /// A list of lists of rows.
 pub type RowLists = Sequence<Rows>;

@@ -1,5 +1,6 @@
-// Values as a caller makes them. What is expected is what CPython 3 answers, but for weight, depth and their limits, which
-// are rules of the language alone.
+// Values as a caller makes them. A table is a text with a case a row, `LEFT ; WORD ; RIGHT`; a value stands there as Python
+// writes it, with a blank between its tokens. What is expected is what CPython 3 answers, but for weight, depth and their
+// limits, which are rules of the language alone.
 mod keys;
 mod limits;
 mod order;
@@ -10,25 +11,12 @@ use crate::{Items, Pairs, Value};
 use std::alloc::Global;
 use tx_text::{NoMemory, PyText};
 
-/// A value without parts, as a table writes it.
-#[derive(Clone, Copy)]
-pub(crate) enum Leaf {
-    Nil,
-    Truth(bool),
-    Int(i128),
-    Text(&'static str),
+/// The cell at a place of a row; empty where it has fewer.
+pub(crate) fn cell(row: &str, at: usize) -> &str {
+    row.split(" ; ").nth(at).unwrap_or("")
 }
 
-pub(crate) fn value_of(alloc: Global, value: Leaf) -> Result<Value, NoMemory> {
-    Ok(match value {
-        Leaf::Nil => Value::Nil,
-        Leaf::Truth(b) => Value::Truth(b),
-        Leaf::Int(n) => Value::Int(n),
-        Leaf::Text(s) => Value::Text(PyText::from_str(alloc, s)?),
-    })
-}
-
-/// An open container: its bracket, and what it holds so far.
+/// A container whose bracket is open, and what it holds so far.
 #[derive(Drop)]
 struct Open {
     bracket: char,
@@ -49,52 +37,82 @@ fn pairs_of(alloc: Global, items: Items) -> Result<Pairs, NoMemory> {
 }
 
 fn closed(alloc: Global, open: Open) -> Result<Value, NoMemory> {
-    Ok(match open.bracket {
-        '(' => Value::Tuple(open.items),
-        '[' => Value::List(open.items),
-        _ => Value::Dict(pairs_of(alloc, open.items)?),
-    })
-}
-
-// The value of a character, or the container that it closes; none where it opens one.
-fn part(alloc: Global, open: &mut Vec<Open>, c: char) -> Result<Option<Value>, NoMemory> {
-    Ok(match c {
-        '(' | '[' | '{' => {
-            open.push(Open {
-                bracket: c,
-                items: Items::new(alloc),
-            })?;
-            None
-        }
-        ')' | ']' | '}' => match open.pop() {
-            Some(last) => Some(closed(alloc, last)?),
-            None => None,
-        },
-        'N' => Some(Value::Nil),
-        'T' => Some(Value::Truth(true)),
-        'F' => Some(Value::Truth(false)),
-        '0'..='9' => Some(Value::Int(c as i128 - '0' as i128)),
-        _ => {
-            let mut text = PyText::new(alloc);
-            text.push(c)?;
-            Some(Value::Text(text))
-        }
-    })
-}
-
-/// A value as a table writes it, a character for each part: `N`, `T` and `F` for None, True and False, a digit for an
-/// integer, another letter for a text of it alone, brackets as Python has them, and nothing between the parts. So
-/// `(1a)` is `(1, "a")`, and `{a[T]}` is `{"a": [True]}`.
-pub(crate) fn written(alloc: Global, text: &str) -> Result<Value, NoMemory> {
-    let mut open = Vec::new(alloc);
-    let mut whole = Value::Nil;
-    for c in text.chars() {
-        if let Some(made) = part(alloc, &mut open, c)? {
-            match open.last_mut() {
-                Some(container) => container.items.push(made)?,
-                None => whole = made,
-            }
-        }
+    match open.bracket {
+        '(' => Ok(Value::Tuple(open.items)),
+        '[' => Ok(Value::List(open.items)),
+        _ => Ok(Value::Dict(pairs_of(alloc, open.items)?)),
     }
-    Ok(whole)
+}
+
+// Puts a value into the innermost open container.
+fn put(open: &mut Vec<Open>, value: Value) -> Result<(), NoMemory> {
+    match open.last_mut() {
+        Some(container) => container.items.push(value),
+        None => Ok(()),
+    }
+}
+
+fn begin(alloc: Global, open: &mut Vec<Open>, bracket: char) -> Result<(), NoMemory> {
+    let items = Items::new(alloc);
+    open.push(Open { bracket, items })?;
+    Ok(())
+}
+
+fn end(alloc: Global, open: &mut Vec<Open>) -> Result<(), NoMemory> {
+    match open.pop() {
+        Some(last) => put(open, closed(alloc, last)?),
+        None => Ok(()),
+    }
+}
+
+fn quoted(alloc: Global, text: &str) -> Result<Value, NoMemory> {
+    Ok(Value::Text(PyText::from_str(alloc, text.trim_end_matches('\''))?))
+}
+
+// A token that is no bracket: a name, a text in quotes, or else an integer.
+fn scalar(alloc: Global, token: &str) -> Result<Value, NoMemory> {
+    match token {
+        "None" => Ok(Value::Nil),
+        "True" => Ok(Value::Truth(true)),
+        "False" => Ok(Value::Truth(false)),
+        _ => match token.strip_prefix('\'') {
+            Some(text) => quoted(alloc, text),
+            None => Ok(Value::Int(token.parse::<i128>().unwrap_or(0))),
+        },
+    }
+}
+
+fn read_token(alloc: Global, open: &mut Vec<Open>, token: &str) -> Result<(), NoMemory> {
+    match token {
+        "," | ":" => Ok(()),
+        "(" => begin(alloc, open, '('),
+        "[" => begin(alloc, open, '['),
+        "{" => begin(alloc, open, '{'),
+        ")" | "]" | "}" => end(alloc, open),
+        _ => put(open, scalar(alloc, token)?),
+    }
+}
+
+fn read_tokens(alloc: Global, open: &mut Vec<Open>, text: &str) -> Result<(), NoMemory> {
+    for token in text.split(' ') {
+        read_token(alloc, open, token)?;
+    }
+    Ok(())
+}
+
+/// A value as Python writes it, with a blank between its tokens: `{ 'a' : [ True , 2 ] }`, `( 1 , )`. It is read as the one
+/// item of a list.
+pub(crate) fn value_of(alloc: Global, text: &str) -> Result<Value, NoMemory> {
+    let mut open = Vec::new(alloc);
+    begin(alloc, &mut open, '[')?;
+    read_tokens(alloc, &mut open, text)?;
+    match open.pop() {
+        Some(list) => Ok(list.items.into_vec().pop().unwrap_or(Value::Nil)),
+        None => Ok(Value::Nil),
+    }
+}
+
+/// The value at a place of a row.
+pub(crate) fn value_at(alloc: Global, row: &str, at: usize) -> Result<Value, NoMemory> {
+    value_of(alloc, cell(row, at))
 }

@@ -1,43 +1,40 @@
-use super::written;
-use crate::{Key, OpError, Value, hashable, key_of};
+use super::{cell, value_at, value_of};
+use crate::{Key, OpError, Value, hashable, key_of, key_of_items};
 use std::alloc::Global;
 use std::hash::{DefaultHasher, Hash, Hasher};
-use std::test::Fail;
 use tx_base::Class;
+use tx_text::NoMemory;
 
 // A value, and whether Python's `hash` takes it.
-fn hash_case(at: usize) -> Option<(&'static str, bool)> {
-    Some(match at {
-        0 => ("N", true),
-        1 => ("T", true),
-        2 => ("1", true),
-        3 => ("a", true),
-        4 => ("()", true),
-        5 => ("(N())", true),
-        6 => ("[]", false),
-        7 => ("{}", false),
-        8 => ("([])", false),
-        9 => ("(1({}))", false),
-        10 => ("(1(()))", true),
-        _ => return None,
-    })
-}
+const HASHABLE: &str = "
+None ; True
+True ; True
+1 ; True
+'a' ; True
+( ) ; True
+( None , ( ) ) ; True
+[ ] ; False
+{ } ; False
+( [ ] , ) ; False
+( 1 , ( { } , ) ) ; False
+( 1 , ( ( ) , ) ) ; True";
 
 // Whether a value has a key exactly where it is hashable, and else raises TypeError.
-fn has_key(alloc: Global, value: &Value, expected: bool) -> bool {
-    let raised = key_of(alloc, value).err() == Some(OpError::Raise(Class::TypeError));
-    hashable(value) == expected && raised != expected
+fn has_key(alloc: Global, row: &str) -> Result<bool, NoMemory> {
+    let value = value_at(alloc, row, 0)?;
+    let raised = key_of(alloc, &value).err() == Some(OpError::Raise(Class::TypeError));
+    let expected = cell(row, 1) == "True";
+    Ok(hashable(&value) == expected && raised != expected)
 }
 
 #[test]
-fn lists_and_dictionaries_have_no_key(rt: HostRuntime) -> Result<(), Fail> {
-    let alloc = rt.alloc();
-    for at in 0..11 {
-        if let Some((text, expected)) = hash_case(at) {
-            assert!(rt; has_key(alloc, &written(alloc, text)?, expected), "at {at}");
-        }
+fn lists_and_dictionaries_have_no_key(rt: HostRuntime) {
+    let mut rows = 0usize;
+    for row in HASHABLE.lines().skip(1) {
+        assert!(rt; has_key(rt.alloc(), row) == Ok(true), "{row}");
+        rows = rows.wrapping_add(1);
     }
-    Ok(())
+    assert!(rt; rows == 11);
 }
 
 fn hash_of(key: &Key) -> u64 {
@@ -46,38 +43,58 @@ fn hash_of(key: &Key) -> u64 {
     hasher.finish()
 }
 
-// Whether the keys of two values are equal, and whether they hash alike; none where one has no key.
-fn alike(alloc: Global, a: &Value, b: &Value) -> Option<(bool, bool)> {
-    let a = key_of(alloc, a).ok()?;
-    let b = key_of(alloc, b).ok()?;
-    Some((a == b, hash_of(&a) == hash_of(&b)))
+// Whether two keys are one, and whether they hash alike.
+fn alike(a: &Key, b: &Key) -> (bool, bool) {
+    (a == b, hash_of(a) == hash_of(b))
 }
 
 // Two hashable values, and whether they are one key of a dictionary.
-fn key_case(at: usize) -> Option<(&'static str, &'static str, bool)> {
-    Some(match at {
-        0 => ("T", "1", true),
-        1 => ("0", "F", true),
-        2 => ("1", "a", false),
-        3 => ("N", "()", false),
-        4 => ("N", "0", false),
-        5 => ("(1a)", "(Ta)", true),
-        6 => ("((1)1)", "(1(1))", false),
-        7 => ("a", "a", true),
-        8 => ("()", "()", true),
-        9 => ("(12)", "(21)", false),
-        _ => return None,
-    })
+const KEYS: &str = "
+True ; one key ; 1
+0 ; one key ; False
+1 ; two keys ; 'a'
+None ; two keys ; ( )
+None ; two keys ; 0
+( 1 , 'a' ) ; one key ; ( True , 'a' )
+( ( 1 , ) , 1 ) ; two keys ; ( 1 , ( 1 , ) )
+'a' ; one key ; 'a'
+( ) ; one key ; ( )
+( 1 , 2 ) ; two keys ; ( 2 , 1 )
+( 1 , 2 ) ; two keys ; ( 1 , )
+( 1 , ) ; two keys ; 1";
+
+fn keys_agree(alloc: Global, row: &str) -> Result<bool, OpError> {
+    let a = key_of(alloc, &value_at(alloc, row, 0)?)?;
+    let b = key_of(alloc, &value_at(alloc, row, 2)?)?;
+    let one = cell(row, 1) == "one key";
+    Ok(alike(&a, &b) == (one, one))
 }
 
 #[test]
-fn equal_values_are_one_key(rt: HostRuntime) -> Result<(), Fail> {
-    let alloc = rt.alloc();
-    for at in 0..10 {
-        if let Some((a, b, expected)) = key_case(at) {
-            let (a, b) = (written(alloc, a)?, written(alloc, b)?);
-            assert_eq!(rt; alike(alloc, &a, &b), Some((expected, expected)), "at {at}");
-        }
+fn equal_values_are_one_key(rt: HostRuntime) {
+    let mut rows = 0usize;
+    for row in KEYS.lines().skip(1) {
+        assert!(rt; keys_agree(rt.alloc(), row) == Ok(true), "{row}");
+        rows = rows.wrapping_add(1);
     }
-    Ok(())
+    assert!(rt; rows == 12);
+}
+
+// Whether the key of a list's items is that of the tuple.
+fn items_agree(alloc: Global, tuple: &Value, items: &[Value]) -> Result<bool, OpError> {
+    let whole = key_of(alloc, tuple)?;
+    Ok(alike(&whole, &key_of_items(alloc, items)?) == (true, true))
+}
+
+fn tuple_agrees(alloc: Global, text: &str) -> Result<bool, OpError> {
+    let tuple = value_of(alloc, text)?;
+    match &tuple {
+        Value::Tuple(items) => items_agree(alloc, &tuple, items.as_slice()),
+        _ => Ok(false),
+    }
+}
+
+#[test]
+fn items_have_the_key_of_their_tuple(rt: HostRuntime) {
+    assert!(rt; tuple_agrees(rt.alloc(), "( 1 , ( None , 'qty' ) , True )") == Ok(true));
 }

@@ -1,43 +1,40 @@
-use super::written;
+use super::{cell, value_at};
 use crate::{Items, MOST_DEPTH, MOST_WEIGHT, Value, depth, made, weight};
 use std::alloc::Global;
 use std::test::Fail;
 use tx_base::Class;
 use tx_text::{Long, NoMemory, PyText};
 
-// A value with its weight and its depth.
-fn case(at: usize) -> Option<(&'static str, u64, u32)> {
-    Some(match at {
-        0 => ("N", 0, 0),
-        1 => ("T", 0, 0),
-        2 => ("7", 0, 0),
-        3 => ("\u{20ac}", 1, 0),
-        4 => ("[]", 0, 1),
-        5 => ("()", 0, 1),
-        6 => ("{}", 0, 1),
-        7 => ("[\u{20ac}7]", 3, 1),
-        8 => ("{kv1N}", 4, 1),
-        9 => ("([7]N)", 3, 2),
-        10 => ("{k[vN]}", 5, 2),
-        11 => ("{(N)N}", 2, 2),
-        12 => ("[[[]]]", 2, 3),
-        _ => return None,
-    })
+// A value, its weight and its depth.
+const LIMITS: &str = "
+None ; 0 ; 0
+True ; 0 ; 0
+7 ; 0 ; 0
+'\u{20ac}' ; 1 ; 0
+[ ] ; 0 ; 1
+( ) ; 0 ; 1
+{ } ; 0 ; 1
+[ '\u{20ac}' , 7 ] ; 3 ; 1
+{ 'k' : 'v' , 1 : None } ; 4 ; 1
+( [ 7 ] , None ) ; 3 ; 2
+{ 'k' : [ 'v' , None ] } ; 5 ; 2
+{ ( None , ) : None } ; 2 ; 2
+[ [ [ ] ] ] ; 2 ; 3";
+
+fn measures(alloc: Global, row: &str) -> Result<bool, NoMemory> {
+    let value = value_at(alloc, row, 0)?;
+    let weighs = cell(row, 1).parse::<u64>().ok() == Some(weight(&value));
+    Ok(weighs && cell(row, 2).parse::<u32>().ok() == Some(depth(&value)))
 }
 
 #[test]
-fn values_have_a_weight_and_a_depth(rt: HostRuntime) -> Result<(), Fail> {
-    let alloc = rt.alloc();
-    for at in 0..13 {
-        if let Some((text, weighs, deepest)) = case(at) {
-            let value = written(alloc, text)?;
-            assert!(rt;
-                weight(&value) == weighs && depth(&value) == deepest,
-                "at {at}"
-            );
-        }
+fn values_have_a_weight_and_a_depth(rt: HostRuntime) {
+    let mut rows = 0usize;
+    for row in LIMITS.lines().skip(1) {
+        assert!(rt; measures(rt.alloc(), row) == Ok(true), "{row}");
+        rows = rows.wrapping_add(1);
     }
-    Ok(())
+    assert!(rt; rows == 13);
 }
 
 // A list of one text of so many characters.
@@ -59,16 +56,17 @@ fn nested(alloc: Global, depth: u32) -> Result<Value, NoMemory> {
     Ok(value)
 }
 
+fn is_refused(value: Value) -> bool {
+    made(value).err() == Some(Class::ProfileError)
+}
+
 #[test]
 fn what_is_made_is_within_the_limits(rt: HostRuntime) -> Result<(), Fail> {
     let alloc = rt.alloc();
     let most = MOST_WEIGHT as usize;
-    assert_eq!(rt; made(heavy(alloc, most - 1)?).is_ok(), true);
-    assert_eq!(rt; made(heavy(alloc, most)?).err(), Some(Class::ProfileError));
-    assert_eq!(rt; made(nested(alloc, MOST_DEPTH)?).is_ok(), true);
-    assert_eq!(rt;
-        made(nested(alloc, MOST_DEPTH + 1)?).err(),
-        Some(Class::ProfileError)
-    );
+    assert!(rt; !is_refused(heavy(alloc, most - 1)?));
+    assert!(rt; is_refused(heavy(alloc, most)?));
+    assert!(rt; !is_refused(nested(alloc, MOST_DEPTH)?));
+    assert!(rt; is_refused(nested(alloc, MOST_DEPTH + 1)?));
     Ok(())
 }

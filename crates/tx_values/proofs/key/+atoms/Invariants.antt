@@ -1,5 +1,5 @@
 use Rattle.std.proofs.Common.{◌≡◌, ◌++◌, drop}
-use Rattle.tx_values.specs.Keys.{keys_of}
+use Rattle.tx_values.specs.Calls.Lists.{keys_of}
 use Rattle.tx_values.proofs.key.+atoms.Given as goal
 
 abbrev pub invariant-add_all-loop-item : goal.invariant-add_all-loop-item

@@ -1,5 +1,5 @@
 use Rattle.std.proofs.Common.{◌≡◌, drop}
-use Rattle.tx_values.specs.Valid.{hashable_all}
+use Rattle.tx_values.specs.Calls.Lists.{hashable_all}
 use Rattle.tx_values.proofs.key.+hashable.Given as goal
 
 abbrev pub invariant-hashable_all-loop-item : goal.invariant-hashable_all-loop-item

@@ -1,5 +1,5 @@
 use Rattle.std.proofs.Common.{◌≡◌, ◌^◌, ◌-◌, ◌<◌, max, min, drop}
-use Rattle.tx_values.specs.Limits.{depth_all, depth_pairs}
+use Rattle.tx_values.specs.Calls.Lists.{depth_all, depth_pairs}
 use Rattle.tx_values.proofs.limits.+depth.Given as goal
 
 abbrev pub invariant-depth_all-loop-item : goal.invariant-depth_all-loop-item

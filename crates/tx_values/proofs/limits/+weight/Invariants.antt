@@ -1,5 +1,5 @@
 use Rattle.std.proofs.Common.{◌≡◌, ◌+◌, ◌^◌, ◌-◌, ◌<◌, min, drop}
-use Rattle.tx_values.specs.Limits.{weight_all, weight_pairs}
+use Rattle.tx_values.specs.Calls.Lists.{weight_all, weight_pairs}
 use Rattle.tx_values.proofs.limits.+weight.Given as goal
 
 abbrev pub invariant-weight_all-loop-item : goal.invariant-weight_all-loop-item

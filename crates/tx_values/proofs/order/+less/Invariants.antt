@@ -1,5 +1,5 @@
 use Rattle.std.proofs.Common.{◌≡◌, drop}
-use Rattle.tx_values.specs.Order.{less_all}
+use Rattle.tx_values.specs.Calls.Lists.{less_all}
 use Rattle.tx_values.proofs.order.+less.Given as goal
 
 abbrev pub invariant-less_all-loop-i : goal.invariant-less_all-loop-i

@@ -7,8 +7,9 @@ use Rattle.std.proofs.lemmas.Bool.{true≢false, eq-eqb, eqb-true}
 use Rattle.std.proofs.lemmas.Bool.Decides.{Decides-int_eq}
 use Rattle.tx_values.specs.declared.value.Value.{Value, out-Value, roll-Value, out-roll-Value, map-Value, fold-roll-Value}
 use Rattle.tx_values.specs.declared.value.Value.TheOpen.{Value-F}
-use Rattle.tx_values.specs.Equality.{Test, equal, equal_open, all_within, has_pair, same_text}
-use Rattle.tx_values.proofs.Pigeons.{Any, Placed}
+use Rattle.tx_values.specs.Equality.{Test, equal, equal_open, has_pair, same_text}
+use Rattle.tx_values.specs.Calls.Lists.{all_within}
+use Rattle.tx_values.proofs.Pigeonhole.{Any, Placed}
 
 abbrev pub Yes : Bool → Type 0
 Yes b = b ≡ true

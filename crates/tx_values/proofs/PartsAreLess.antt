@@ -4,10 +4,11 @@ use Rattle.std.specs.List.{AllByRecursion}
 use Rattle.tx_values.specs.declared.value.Value.{Value, out-Value, roll-Value, out-roll-Value, fold-roll-Value}
 use Rattle.tx_values.specs.declared.value.Value.TheOpen.{Value-F}
 use Rattle.tx_values.specs.declared.value.Value.TheOpen as v
-use Rattle.tx_values.specs.Limits.{weight, weight_all, weight_pairs, weight_step, depth, depth_all, depth_pairs, depth_step}
+use Rattle.tx_values.specs.Limits.{weight, weight_step, depth, depth_step}
+use Rattle.tx_values.specs.Calls.Lists.{weight_all, weight_pairs, depth_all, depth_pairs}
 use Rattle.tx_values.specs.Valid.{Parts}
 use Rattle.tx_values.specs.Laws.{PartsLaw}
-use Rattle.tx_values.proofs.Induct.{by_layer}
+use Rattle.tx_values.proofs.Induction.{by_layer}
 
 module _ (w d : ℕ) where
   abbrev Under : Value → Type 0

@@ -2,15 +2,16 @@
 use Rattle.std.proofs.Common.{◌≡◌, ◌<◌, ◌&&◌, ℕ, Bool, List, [], ◌∷◌, map, nat_le, refl, sym, ap, subst, ◌∙◌, arith}
 use Rattle.std.specs.List.{AllByRecursion, list_all}
 use Rattle.std.proofs.lemmas.Bool.Decides.{nat_tests}
-use Rattle.tx_values.specs.declared.value.Value.{Value, out-Value, roll-Value, out-roll-Value, map-Value, fold-roll-Value, para-roll-Value}
+use Rattle.tx_values.specs.declared.value.Value.{Value, out-Value, roll-Value, out-roll-Value, map-Value, fold-roll-Value}
 use Rattle.tx_values.specs.declared.value.Value.TheOpen.{Value-F}
 use Rattle.tx_values.specs.declared.value.Value.TheOpen as v
 use Rattle.tx_values.specs.Limits.{weight, depth, in_limits}
-use Rattle.tx_values.specs.Valid.{Parts, Told, distinct, hashable, keyed, keyed_step, ranged, ranged_step, told_all, told_keys, told_pairs, valid}
+use Rattle.tx_values.specs.Valid.{Parts, distinct, hashable, keyed, ranged, ranged_step, told_keys, told_pairs, valid}
 use Rattle.tx_values.specs.Laws.{ValidLaw, is_sound}
-use Rattle.tx_values.proofs.Induct.{by_layer}
-use Rattle.tx_values.proofs.Same.{Yes, both, first, second}
-use Rattle.tx_values.proofs.Within.{parts_within}
+use Rattle.tx_values.proofs.KeyedLayers.{keyed_all, keyed_layer, keyed_rolled, told_of}
+use Rattle.tx_values.proofs.Induction.{by_layer}
+use Rattle.tx_values.proofs.EqualityLemmas.{Yes, both, first, second}
+use Rattle.tx_values.proofs.PartsAreLess.{parts_within}
 
 abbrev Pair : Type 0
 Pair = Value × Value
@@ -33,7 +34,7 @@ ranged_of a h = first (ranged a) (keyed a) (second (in_limits a) (ranged a && ke
 keyed_of : (a : Value) → Valid a → Yes (keyed a)
 keyed_of a h = second (ranged a) (keyed a) (second (in_limits a) (ranged a && keyed a) h)
 
--- ---- the two folds, a layer at a time
+-- ---- the fold of ranges, a layer at a time
 
 abbrev ranged_layer : Value-F Value → Bool
 ranged_layer x = ranged_step (map-Value Value Bool ranged x)
@@ -41,25 +42,13 @@ ranged_layer x = ranged_step (map-Value Value Bool ranged x)
 ranged_rolled : (x : Value-F Value) → ranged (roll-Value x) ≡ ranged_layer x
 ranged_rolled x = fold-roll-Value Bool ranged_step x
 
-abbrev keyed_layer : Value-F Value → Bool
-keyed_layer x = keyed_step (map-Value Value Told (λ y. (y, keyed y)) x)
-
-keyed_rolled : (x : Value-F Value) → keyed (roll-Value x) ≡ keyed_layer x
-keyed_rolled x = para-roll-Value Bool keyed_step x
-
 -- ---- lists of items and of pairs
 
 abbrev ranged_all : List Value → Bool
 ranged_all xs = list_all (λ b. b) (map ranged xs)
 
-abbrev keyed_all : List Value → Bool
-keyed_all xs = told_all (map (λ y. (y, keyed y)) xs)
-
 abbrev ranged_pairs : List Pair → Bool
 ranged_pairs ps = list_all {X = Bool × Bool} (λ p. p.0 && p.1) (map (λ p. (ranged p.0, ranged p.1)) ps)
-
-abbrev told_of : List Pair → List (Told × Told)
-told_of ps = map (λ p. ((p.0, keyed p.0), (p.1, keyed p.1))) ps
 
 items_valid : (xs : List Value) → AllByRecursion InLimits xs → Yes (ranged_all xs) → Yes (keyed_all xs) → AllByRecursion Valid xs
 items_valid [] l r k = tt

@@ -1,5 +1,6 @@
 -- Where each of a list has its like in another that is as long, and no two share one, each of the other is had.
-use Rattle.std.proofs.Common.{◌≡◌, ◌⊎◌, inl, inr, ℕ, suc, List, [], ◌∷◌, length, refl, ap, ◌∙◌}
+use Rattle.std.proofs.Common.{◌≡◌, ◌⊎◌, inl, inr, suc, List, [], ◌∷◌, length, refl, ap, ◌∙◌}
+use Rattle.std.proofs.Math.Nat.{suc_inj}
 use Rattle.std.specs.List.{AllByRecursion}
 
 -- P holds of an item
@@ -56,9 +57,6 @@ cut_back P Q (x ∷ xs) (inr a) f h = (h.0, cut_back P Q xs a f h.1)
 
 -- ---- the principle
 
-one_less : {m n : ℕ} → suc m ≡ suc n → m ≡ n
-one_less e = cc e
-
 module _ {A B : Type 0} (R : A → B → Type 0) where
   abbrev pub NoneShared : A → A → Type 0
   NoneShared p o = (q : B) → R p q → R o q → ⊥
@@ -80,5 +78,5 @@ module _ {A B : Type 0} (R : A → B → Type 0) where
   covered (p ∷ ps) qs e d h =
       let left = cut (R p) qs h.0 in
       let placed = each_both (NoneShared p) (Placed qs) (Placed left) ps (λ o none. cut_keeps (R p) (R o) qs h.0 none) d.0 h.1 in
-      let had = covered ps left (one_less (e ∙ cut_length (R p) qs h.0)) d.1 placed in
+      let had = covered ps left (suc_inj (e ∙ cut_length (R p) qs h.0)) d.1 placed in
       cut_back (R p) (Had (p ∷ ps)) qs h.0 (λ q r. inl r) (each_map (Had ps) (Had (p ∷ ps)) left (λ q a. inr a) had)

@@ -10,7 +10,8 @@ use Rattle.tx_values.specs.declared.value.Value.TheVariants.{outs-Nil, outs-Trut
 use Rattle.tx_values.specs.declared.value.Value.TheOpen.{Value-F}
 use Rattle.tx_values.specs.declared.value.Value.TheOpen as v
 use Rattle.tx_values.specs.Equality.{number_of}
-use Rattle.tx_values.specs.Order.{Answer, Item, less, less_open, less_all}
+use Rattle.tx_values.specs.Order.{Answer, Item, less, less_open}
+use Rattle.tx_values.specs.Calls.Lists.{less_all}
 
 -- the order of two layers
 abbrev pub less_layer : Value-F Value → Value-F Value → Answer

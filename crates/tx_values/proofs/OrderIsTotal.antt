@@ -11,9 +11,9 @@ use Rattle.tx_values.specs.declared.value.Value.TheOpen as v
 use Rattle.tx_values.specs.Equality.{number_of, same_text}
 use Rattle.tx_values.specs.Order.{Answer, less}
 use Rattle.tx_values.specs.Laws.{is_numeric, is_textual, IsNumber, IsText, OneOf, Compared, TrichotomyLaw, LessTransitiveLaw}
-use Rattle.tx_values.proofs.Induct.{by_layer}
-use Rattle.tx_values.proofs.Orders.{less_layer, less_rolled}
-use Rattle.tx_values.proofs.Same.{Yes, both, first, second, no_yes, same, rolled}
+use Rattle.tx_values.proofs.Induction.{by_layer}
+use Rattle.tx_values.proofs.OrderLemmas.{less_layer, less_rolled}
+use Rattle.tx_values.proofs.EqualityLemmas.{Yes, both, first, second, no_yes, same, rolled}
 
 -- ---- numbers
 

@@ -1,5 +1,6 @@
 -- No key begins another, so keys are equal exactly where values are.
 use Rattle.std.proofs.Common.{◌≡◌, ◌++◌, ℕ, ℤ, suc, Bool, List, [], ◌∷◌, length, map, refl, sym, ap, subst, ◌∙◌, append_assoc}
+use Rattle.std.proofs.Math.Nat.{suc_inj}
 use Rattle.std.specs.List.{AllByRecursion}
 use Rattle.std.specs.Ordering.{int_eq}
 use Rattle.std.proofs.lemmas.Bool.Decides.{same_from_decides}
@@ -8,11 +9,13 @@ use Rattle.tx_values.specs.declared.value.Value.TheOpen.{Value-F}
 use Rattle.tx_values.specs.declared.value.Value.TheOpen as v
 use Rattle.tx_values.specs.declared.key.Atom.{Atom}
 use Rattle.tx_values.specs.declared.key.Atom.TheVariants as atom
-use Rattle.tx_values.specs.Equality.{equal, equal_all, number_of, same_text}
-use Rattle.tx_values.specs.Valid.{Parts, hashable, hashable_all, hashable_step}
-use Rattle.tx_values.specs.Keys.{key_of, keys_of, key_step, key_input, same_key, key_decides}
-use Rattle.tx_values.proofs.Induct.{induct, by_layer}
-use Rattle.tx_values.proofs.Same.{Yes, both, first, second, no_yes, int_same, int_itself, text_same, text_itself, same, rolled}
+use Rattle.tx_values.specs.Equality.{equal, number_of, same_text}
+use Rattle.tx_values.specs.Calls.Lists.{equal_all, hashable_all, keys_of}
+use Rattle.tx_values.specs.Valid.{Parts, hashable, hashable_step}
+use Rattle.tx_values.specs.Keys.{key_of, key_step, key_input, same_key}
+use Rattle.tx_values.specs.Calls.KeyLaws.{key_decides}
+use Rattle.tx_values.proofs.Induction.{induct, by_layer}
+use Rattle.tx_values.proofs.EqualityLemmas.{Yes, both, first, second, no_yes, int_same, int_itself, text_same, text_itself, same, rolled}
 
 -- ---- a layer's key, and whether it is hashable
 
@@ -80,9 +83,6 @@ text_head e = cc e
 tuple_head : {m n : ℕ} {r t : List Atom} → atom.Tuple m ∷ r ≡ atom.Tuple n ∷ t → m ≡ n
 tuple_head e = cc e
 
-one_less : {m n : ℕ} → suc m ≡ suc n → m ≡ n
-one_less e = cc e
-
 number : (m n : ℤ) (r t : List Atom) → atom.Int m ∷ r ≡ atom.Int n ∷ t → Yes (int_eq m n) × (r ≡ t)
 number m n r t e = (subst (λ (k : ℤ). Yes (int_eq m k)) (int_head e) (int_itself m), tail e)
 
@@ -92,7 +92,7 @@ all_values [] h k (y ∷ ys) l r t n e = cc n
 all_values (x ∷ xs) h k [] l r t n e = cc n
 all_values (x ∷ xs) h k (y ∷ ys) l r t n e =
     let here = h.0 (first (hashable x) (hashable_all xs) k) y (first (hashable y) (hashable_all ys) l) (keys_of xs ++ r) (keys_of ys ++ t) (sym (append_assoc (key_of x) (keys_of xs) r) ∙ e ∙ append_assoc (key_of y) (keys_of ys) t) in
-    let rest = all_values xs h.1 (second (hashable x) (hashable_all xs) k) ys (second (hashable y) (hashable_all ys) l) r t (one_less n) here.1 in
+    let rest = all_values xs h.1 (second (hashable x) (hashable_all xs) k) ys (second (hashable y) (hashable_all ys) l) r t (suc_inj n) here.1 in
     (both (equal x y) (equal_all xs ys) here.0 rest.0, rest.1)
 
 one_value : (x : Value-F Value) → Parts OneValue x → Yes (layer_hashable x) → (y : Value-F Value) → Yes (layer_hashable y) → (r t : List Atom) → layer_key x ++ r ≡ layer_key y ++ t → Yes (same x y) × (r ≡ t)
@@ -122,30 +122,30 @@ keys_agree a b k l =
 
 -- ---- what is equal to a hashable value is hashable
 
-abbrev Spreads : Value → Type 0
-Spreads a = Yes (hashable a) → (b : Value) → Yes (equal a b) → Yes (hashable b)
+abbrev HashableIfEqual : Value → Type 0
+HashableIfEqual a = Yes (hashable a) → (b : Value) → Yes (equal a b) → Yes (hashable b)
 
-all_spread : (xs : List Value) → AllByRecursion Spreads xs → Yes (hashable_all xs) → (ys : List Value) → Yes (equal_all xs ys) → Yes (hashable_all ys)
-all_spread [] h k [] e = refl
-all_spread [] h k (y ∷ ys) e = no_yes e
-all_spread (x ∷ xs) h k [] e = no_yes e
-all_spread (x ∷ xs) h k (y ∷ ys) e =
+all_hashable : (xs : List Value) → AllByRecursion HashableIfEqual xs → Yes (hashable_all xs) → (ys : List Value) → Yes (equal_all xs ys) → Yes (hashable_all ys)
+all_hashable [] h k [] e = refl
+all_hashable [] h k (y ∷ ys) e = no_yes e
+all_hashable (x ∷ xs) h k [] e = no_yes e
+all_hashable (x ∷ xs) h k (y ∷ ys) e =
     both (hashable y) (hashable_all ys)
     (h.0 (first (hashable x) (hashable_all xs) k) y (first (equal x y) (equal_all xs ys) e))
-    (all_spread xs h.1 (second (hashable x) (hashable_all xs) k) ys (second (equal x y) (equal_all xs ys) e))
+    (all_hashable xs h.1 (second (hashable x) (hashable_all xs) k) ys (second (equal x y) (equal_all xs ys) e))
 
-spreads : (x : Value-F Value) → Parts Spreads x → Yes (layer_hashable x) → (y : Value-F Value) → Yes (same x y) → Yes (layer_hashable y)
-spreads (v.List xs) h k y e = no_yes k
-spreads (v.Dict ps) h k y e = no_yes k
-spreads (v.Tuple xs) h k (v.Tuple ys) e = all_spread xs h k ys e
-spreads _ h k (v.List ys) e = no_yes e
-spreads _ h k (v.Dict qs) e = no_yes e
-spreads _ h k (v.Tuple ys) e = no_yes e
-spreads _ h k _ e = refl
+layer_hashable_if_equal : (x : Value-F Value) → Parts HashableIfEqual x → Yes (layer_hashable x) → (y : Value-F Value) → Yes (same x y) → Yes (layer_hashable y)
+layer_hashable_if_equal (v.List xs) h k y e = no_yes k
+layer_hashable_if_equal (v.Dict ps) h k y e = no_yes k
+layer_hashable_if_equal (v.Tuple xs) h k (v.Tuple ys) e = all_hashable xs h k ys e
+layer_hashable_if_equal _ h k (v.List ys) e = no_yes e
+layer_hashable_if_equal _ h k (v.Dict qs) e = no_yes e
+layer_hashable_if_equal _ h k (v.Tuple ys) e = no_yes e
+layer_hashable_if_equal _ h k _ e = refl
 
-spread : (a : Value) → Spreads a
-spread = induct Spreads (λ x h k. by_layer (λ b. Yes (equal (roll-Value x) b) → Yes (hashable b))
-    (λ y e. hashable_rolled y ∙ spreads x h (sym (hashable_rolled x) ∙ k) y (sym (rolled x y) ∙ e)))
+hashable_if_equal : (a : Value) → HashableIfEqual a
+hashable_if_equal = induct HashableIfEqual (λ x h k. by_layer (λ b. Yes (equal (roll-Value x) b) → Yes (hashable b))
+    (λ y e. hashable_rolled y ∙ layer_hashable_if_equal x h (sym (hashable_rolled x) ∙ k) y (sym (rolled x y) ∙ e)))
 
 pub hashable_follows : (a b : Value) → Yes (hashable a) → Yes (equal a b) → Yes (hashable b)
-hashable_follows a b k e = spread a k b e
+hashable_follows a b k e = hashable_if_equal a k b e
