@@ -1,11 +1,8 @@
 -- Counts of faults: they never fall, and they stand at their last value.
-use Rattle.std.specs.Prelude.{◌≡◌, ℕ, ◌+◌, ◌<◌, ◌≤◌, min, Result, Ok, Err}
+use Rattle.std.specs.Prelude.{◌≡◌, ℕ, ◌<◌, ◌≤◌, Result, Ok, Err}
+use Rattle.tx_base.specs.Count.{last_count, counted}
 use Rattle.tx_place.specs.declared.place.CallError.{CallError}
 use Rattle.tx_place.specs.declared.place.CallError.TheVariants.{Failed, NoMemory}
-
--- 2^64 - 1, the last value of a count
-abbrev pub last_count : ℕ
-last_count = 18446744073709551615
 
 -- a count rose; one at its last value is taken as risen
 abbrev pub Rose : ℕ → ℕ → Type 0
@@ -17,7 +14,7 @@ Still old new = (old < last_count) × (new ≡ old)
 
 -- a count after one more; at its last value it stays
 abbrev pub next_count : ℕ → ℕ
-next_count old = min (old + 1) last_count
+next_count old = counted old 1
 
 -- what a call that counts does to its count: it rises by one, and at its last value it stays
 pub record Rises (old new : ℕ) : Type 0 where

@@ -1,5 +1,9 @@
 // Files of the system: the trusted edge. It tells neither what it holds nor the name of a call that failed.
-ghost use Rattle.std.specs.Prelude.{◌≡◌, ◌≤◌, IfOk, None, false, option_map, length};
+ghost use Rattle.std.specs.Prelude.{◌≡◌, ◌≤◌, ◌<◌, IfOk, IfSome, OnOk, None, option_map, length, take};
+ghost use Rattle.std.specs.Str.{chars};
+ghost use Rattle.std.specs.Io.KnownBytes as known;
+ghost use Rattle.tx_place.specs.Place.{ReadsAt, Creates, Appends};
+ghost use Rattle.tx_place.specs.Real.{silent_place, GaveFrom};
 
 use crate::{CallError, Place};
 use std::alloc::Global;
@@ -14,7 +18,8 @@ struct Opened<F: Drop> {
     file: F,
 }
 
-/// Files of the system by their paths. It keeps the file of its last `create` open, and appends to that.
+/// Files of the system by their paths. It keeps the file of its last `create` open, and appends to that. A file is
+/// opened anew for each read: where it is replaced in between, the pieces are of both.
 #[derive(Drop)]
 pub struct RealPlace<R: Files + Drop> {
     alloc: Global,
@@ -41,12 +46,12 @@ impl<R: Files + Drop> RealPlace<R> {
     }
 }
 
-// Fills `into` with the bytes of a file from a place on, as far as there are any.
-fn read_from<R: Files>(files: &R, name: &str, at: u64, into: &mut [u8]) -> io::Result<usize>
-    ensures { IfOk result (λ n. n ≤ length into.new) }
+// Fills `into` with what a file has next, as far as it has anything.
+fn fill<F: Read>(file: &mut F, into: &mut [u8]) -> io::Result<usize>
+    ensures within { IfOk result (λ n. n ≤ length into.new) }
+    ensures next { IfOk result (λ n. known.Consumes (F.remaining file.old) (F.remaining file.new) (take n into.new)) }
+    ensures full { IfOk result (λ n. n < length into.new → known.IsAtEnd (F.remaining file.new)) }
 {
-    let mut file = File::open(files, name)?;
-    file.seek(SeekFrom::Start(at))?;
     let mut taken = 0;
     while taken < into.len() {
         let more = file.read(&mut into[taken..])?;
@@ -58,19 +63,29 @@ fn read_from<R: Files>(files: &R, name: &str, at: u64, into: &mut [u8]) -> io::R
     Ok(taken)
 }
 
+// Fills `into` with the bytes of a file from a place on, as far as there are any.
+fn read_from<F: Read + Seek>(file: &mut F, at: u64, into: &mut [u8]) -> io::Result<usize>
+    ensures within { IfOk result (λ n. n ≤ length into.new) }
+    ensures there { IfOk result (λ n. GaveFrom F.stream_position F.remaining at file.old file.new (take n into.new)) }
+    ensures full { IfOk result (λ n. n < length into.new → known.IsAtEnd (F.remaining file.new)) }
+{
+    file.seek(SeekFrom::Start(at))?;
+    fill(file, into)
+}
+
+// The same of the file of a name.
+fn read_named<R: Files>(files: &R, name: &str, at: u64, into: &mut [u8]) -> io::Result<usize>
+    ensures { IfOk result (λ n. n ≤ length into.new) }
+{
+    let mut file = File::open(files, name)?;
+    read_from(&mut file, at, into)
+}
+
 impl<R: Files + Drop> Place for RealPlace<R> {
-    ghost state = { λ p. record {
-      tells = false;
-      names_faults = false;
-      held = λ _. None;
-      failed = None;
-      read_faults = p.read_faults;
-      write_faults = p.write_faults;
-      open_file = option_map (λ o. o.name) p.opened;
-    } };
+    ghost state = { λ p. silent_place p.read_faults p.write_faults (option_map (λ o. o.name) p.opened) };
 
     fn read_at(&mut self, name: &str, at: u64, into: &mut [u8]) -> Result<usize, CallError> {
-        match read_from(&self.files, name, at, into) {
+        match read_named(&self.files, name, at, into) {
             Ok(taken) => Ok(taken),
             Err(_) => {
                 self.read_faults = self.read_faults.saturating_add(1);
@@ -96,7 +111,13 @@ impl<R: Files + Drop> Place for RealPlace<R> {
         }
     }
 
-    fn append(&mut self, _name: &str, bytes: &[u8]) -> Result<(), CallError> {
+    fn append(&mut self, name: &str, bytes: &[u8]) -> Result<(), CallError>
+        ensures does { Appends result (chars name.now) bytes.now
+            (silent_place self.old.read_faults self.old.write_faults (option_map (λ o. o.name) self.old.opened))
+            (silent_place self.new.read_faults self.new.write_faults (option_map (λ o. o.name) self.new.opened)) }
+        ensures written { OnOk result (IfSome self.old.opened (λ o. IfSome self.new.opened (λ p.
+            known.Appends (R.File.contents o.file) (R.File.contents p.file) bytes.now))) }
+    {
         if let Some(opened) = &mut self.opened {
             if opened.file.write_all(bytes).is_ok() {
                 return Ok(());
@@ -110,34 +131,33 @@ impl<R: Files + Drop> Place for RealPlace<R> {
 #[cfg(test)]
 mod tests {
     use super::*;
-    use crate::read_all;
+    use crate::tests::answers;
     use std::test::Fail;
+    use tx_text::{Bytes, NoMemory};
+
+    const CALLS: &str = "\
+write real_place.tmp abc de, read real_place.tmp 0, read real_place.tmp 4, read real_place.tmp 5, \
+read real_place.tmp 9, whole real_place.tmp 5, whole real_place.tmp 4, read absent.tmp 0, create absent/x.tmp, \
+create real_place.tmp, read real_place.tmp 0, write real_place.tmp x y, whole real_place.tmp 9";
+
+    const ANSWERS: &str = "\
+ok, abcd, e, , , abcde, too large, failed, failed, ok, , ok, xy, ";
+
+    // Whether the calls have their answers, and each fault raised its count.
+    fn files_are_kept<R: Files + Drop>(alloc: Global, files: R) -> Result<bool, NoMemory> {
+        let mut place = RealPlace::new(alloc, files);
+        let mut said = Bytes::new(alloc);
+        answers(alloc, &mut place, CALLS, &mut said)?;
+        Ok(
+            said.as_slice() == ANSWERS.as_bytes()
+                && place.read_faults == 1
+                && place.write_faults == 1,
+        )
+    }
 
     #[test]
     fn files_are_kept_and_faults_counted(rt: HostRuntime) -> Result<(), Fail> {
-        let alloc = rt.alloc();
-        let name = "real_place.tmp";
-        let mut place = RealPlace::new(alloc, rt);
-        place.create(name)?;
-        place.append(name, b"abc")?;
-        place.append(name, b"de")?;
-        let mut into = [0u8; 4];
-        assert_eq!(rt; place.read_at(name, 0, &mut into)?, 4);
-        assert_eq!(rt; into, [97, 98, 99, 100]);
-        assert_eq!(rt; place.read_at(name, 4, &mut into)?, 1);
-        assert_eq!(rt; place.read_at(name, 5, &mut into)?, 0);
-        assert_eq!(rt; place.read_at(name, 9, &mut into)?, 0);
-        let whole = read_all(alloc, &mut place, name, 5)?;
-        assert_eq!(rt; whole.as_slice(), b"abcde".as_slice());
-        assert_eq!(rt; (place.read_faults, place.write_faults), (0, 0));
-        let absent = place.read_at("absent.tmp", 0, &mut into);
-        assert_eq!(rt; absent.err(), Some(CallError::Failed));
-        assert_eq!(rt; (place.read_faults, place.write_faults), (1, 0));
-        assert_eq!(rt; place.create("absent/x.tmp").err(), Some(CallError::Failed));
-        assert_eq!(rt; (place.read_faults, place.write_faults), (1, 1));
-        assert_eq!(rt; place.opened.is_none(), true);
-        place.create(name)?;
-        assert_eq!(rt; place.read_at(name, 0, &mut into)?, 0);
+        assert!(rt; files_are_kept(rt.alloc(), &rt)?);
         Ok(())
     }
 }
