@@ -15,7 +15,8 @@ use Rattle.std.proofs.lemmas.List.Recursion.{same_from_clauses}
 use Rattle.std.proofs.lemmas.Slice.Eq.{bytes_eq-Decides}
 use Rattle.std.proofs.lemmas.Str.{IsUtf8-from_ascii, digit_value_digit}
 use Rattle.std.proofs.lemmas.Str.Parse.{IsNumeralModel, digit_from_value, numerals_by_value, tells_all_ascii_digits}
-use Rattle.tuplex_run.specs.Cell.{is_128_bit, is_numeral, is_positive, print, read, read_number, without_minus}
+use Rattle.tx_base.specs.Width.{is_128_bit}
+use Rattle.tuplex_run.specs.Cell.{is_numeral, is_positive, print, read, read_number, without_minus}
 use Rattle.tuplex_run.specs.declared.cell.Cell.{Cell}
 use Rattle.tuplex_run.specs.declared.cell.Cell.TheVariants.{Nil, Truth, Int, Text}
 

@@ -1,13 +1,13 @@
-use Rattle.std.proofs.Common.{◌≡◌, ◌≤◌, ◌<◌, ℕ, List, ◌++◌, length, take, true, sym, ap, ◌∙◌, subst, refl, inl, inr, arith, append-nil, Result, Ok, Err}
+-- What was said and complained, from the parts of a command.
+use Rattle.std.proofs.Common.{◌≡◌, ◌≤◌, ◌<◌, ℕ, List, ◌++◌, length, take, true, sym, ap, ◌∙◌, subst, inl, inr, arith, append-nil, Result, Ok, Err}
 use Rattle.std.proofs.Math.Seq.{take-length}
 use Rattle.tx_place.specs.Console.{ConsoleState, Complains}
 use Rattle.tx_place.specs.declared.place.CallError.{CallError}
 use Rattle.tx_place.specs.declared.place.CallError.TheVariants as call_error
 use Rattle.tuplex_run.specs.Deed.{Deed}
-use Rattle.tuplex_run.specs.Outside.{Outside}
 use Rattle.tuplex_run.specs.Due.{Verdict}
 use Rattle.tuplex_run.specs.Ends.{lines_due, SaidOf, Complained}
-use Rattle.tuplex_run.specs.Finish.{OnlySays, OnlyComplains, Turns}
+use Rattle.tuplex_run.specs.Calls.Finish.{OnlySays, OnlyComplains, Turns}
 use Rattle.tuplex_run.specs.declared.outcome.Outcome.{Outcome}
 use Rattle.tuplex_run.specs.declared.outcome.Outcome.TheVariants.{Done, Words, NotThisForm, ReadFault, WriteFault, ConsoleFault, NoMemory}
 
@@ -95,10 +95,5 @@ said_closed known lines was mid now le b t (WriteFault name) r (inr e) h =
     subst (λ x. SaidOf known lines was now x) (sym e) (none_said known lines was now (b.said t ∙ h))
 
 -- the line of an accepted run is the one that is due
-pub lines_are : (v : Verdict) (deed : Deed) (old new : Outside) → v ≡ inr deed → deed.line ≡ lines_due v old new
-lines_are v deed old new e = sym (ap (λ w. lines_due w old new) e)
-
--- the lines depend on the verdict alone
-pub lines_same : (v : Verdict) (old mid was new : Outside) → lines_due v old mid ≡ lines_due v was new
-lines_same (inl refusal) old mid was new = refl
-lines_same (inr deed) old mid was new = refl
+pub lines_are : (v : Verdict) (deed : Deed) → v ≡ inr deed → deed.line ≡ lines_due v
+lines_are v deed e = sym (ap lines_due e)

@@ -9,7 +9,7 @@ use Rattle.std.proofs.lemmas.List.Folds.{length-prefix_len}
 use Rattle.std.proofs.lemmas.Slice.Eq.{bytes_eq-Decides}
 use Rattle.tuplex_run.specs.Form.{IsTextOf, is_name, is_name_byte, name_at, name_in, name_behind, behind, is_end, before_input, before_column, before_left, before_right, before_output, behind_output, form_in, form_at_input, form_at_column, form_at_left, form_at_right, form_at_output, text_of, has_names, form_of, unless_written}
 use Rattle.tx_place.specs.Whole.{IsLarger}
-use Rattle.tuplex_run.specs.Refusals.{HasNoForm}
+use Rattle.tuplex_run.specs.Calls.Refusals.{HasNoForm}
 use Rattle.tuplex_run.specs.declared.form.Form.{Form}
 
 -- ---- tests

@@ -3,6 +3,8 @@ pub mod Literals
 pub mod Deeds
 pub mod Files
 pub mod Forms
+pub mod Failures
+pub mod Causes
 pub mod Refusals
 pub mod Complaints
 pub mod Writes

@@ -1,9 +1,14 @@
+-- Why a command was refused, from the refusals of its steps.
 use Rattle.std.proofs.Common.{◌≡◌, ℕ, List, [], ◌∷◌, Option, Some, None, true, sym, ap, ◌∙◌, subst, refl, arith, Contains}
+use Rattle.std.specs.Prelude.{if◌then◌else◌}
+use Rattle.std.proofs.lemmas.List.Elements.{Contains-append_left}
 use Rattle.tx_place.specs.Count.{Rose}
 use Rattle.tx_place.specs.Place.{PlaceState, Held}
 use Rattle.tuplex_run.specs.Words.{script_of}
-use Rattle.tuplex_run.specs.Due.{verdict, verdict_on, verdict_on_script, verdict_on_form, verdict_on_input, names_read, names_read_on, names_behind, inputs_read, inputs_of}
-use Rattle.tuplex_run.specs.Refusals.{OnlyRead, IsReadFault, HasForm, InputRefusal, Refusal}
+use Rattle.tuplex_run.specs.Due.{verdict, verdict_on, verdict_on_script, verdict_on_form, verdict_on_input, names_read, names_read_on, names_behind, inputs_read, inputs_of, is_within, input_limit}
+use Rattle.tuplex_run.specs.Ends.{FailedAmong}
+use Rattle.tuplex_run.proofs.Failures.{among_more, among_later, later}
+use Rattle.tuplex_run.specs.Calls.Refusals.{OnlyRead, NoReadFailed, IsReadFault, HasForm, InputRefusal, Refusal}
 use Rattle.tuplex_run.specs.declared.form.Form.{Form}
 use Rattle.tuplex_run.specs.declared.outcome.Outcome.{Outcome}
 use Rattle.tuplex_run.specs.declared.outcome.Outcome.TheVariants.{Done, Words, NotThisForm, ReadFault, WriteFault, ConsoleFault, NoMemory}
@@ -23,19 +28,25 @@ verdict_at_form words held script form e h = ap (λ s. verdict_on s held) e ∙ 
 pub names_form : (words : List (List ℕ)) (held : Held) (script : List ℕ) (form : Form) → script_of words ≡ Some script → HasForm form script (held script) → names_read words held ≡ script ∷ inputs_read (form.input ∷ []) held
 names_form words held script form e h = ap (λ s. names_read_on s held) e ∙ ap (λ r. script ∷ r) (names_at_form held script form (held script) h)
 
-later_fault : (name : List ℕ) (old mid new : PlaceState) → OnlyRead old mid → mid.read_faults ≡ old.read_faults → IsReadFault name mid new → IsReadFault name old new
+later_fault : (name : List ℕ) (old mid new : PlaceState) → OnlyRead old mid → NoReadFailed old mid → IsReadFault name mid new → IsReadFault name old new
 later_fault name old mid new only still h = record {
-  rose = subst (λ n. Rose n new.read_faults) still h.rose;
+  rose = subst (λ n. Rose n new.read_faults) still.reads h.rose;
   named = λ t. h.named (only.telling.names_faults ∙ t);
+}
+
+none_later : (old mid new : PlaceState) → OnlyRead old mid → NoReadFailed old mid → NoReadFailed mid new → NoReadFailed old new
+none_later old mid new only still h = record {
+  reads = h.reads ∙ still.reads;
+  named = λ t. h.named (only.telling.names_faults ∙ t) ∙ still.named t;
 }
 
 second : (a b : List ℕ) (cs : List (List ℕ)) → Contains (a ∷ b ∷ cs) b
 second a b cs = (1, omega arith, refl)
 
 -- an input that is refused refuses the command
-pub input_refused : (words : List (List ℕ)) (old mid new : PlaceState) (script : List ℕ) (form : Form) → script_of words ≡ Some script → OnlyRead old mid → mid.read_faults ≡ old.read_faults → (old.tells ≡ true → HasForm form script (old.held script)) → (o : Outcome) → InputRefusal form mid new o → Refusal words old new o
+pub input_refused : (words : List (List ℕ)) (old mid new : PlaceState) (script : List ℕ) (form : Form) → script_of words ≡ Some script → OnlyRead old mid → NoReadFailed old mid → (old.tells ≡ true → HasForm form script (old.held script)) → (o : Outcome) → InputRefusal form mid new o → Refusal words old new o
 input_refused words old mid new script form e only still f NotThisForm h = (
-  h.0 ∙ still,
+  none_later old mid new only still h.0,
   λ t.
       let same : mid.held form.input ≡ old.held form.input = ap (λ (held : Held). held form.input) (only.held t) in
       verdict_at_form words old.held script form e (f t) ∙ (ap (verdict_on_input form) (sym same) ∙ h.1 (only.telling.tells ∙ t)),
@@ -52,3 +63,24 @@ input_refused words old mid new script form e only still f (Done rows reported) 
 input_refused words old mid new script form e only still f Words h = absurd h
 input_refused words old mid new script form e only still f (WriteFault name) h = h
 input_refused words old mid new script form e only still f ConsoleFault h = h
+
+-- ---- the name of the last call that failed
+
+-- the script is read
+pub failed_at_script : (words : List (List ℕ)) (old new : PlaceState) (script : List ℕ) → script_of words ≡ Some script
+    → FailedAmong (script ∷ []) old new → FailedAmong (names_read words old.held) old new
+failed_at_script words old new script e h =
+    let behind = names_behind script (old.held script) old.held in
+    let reads : names_read words old.held ≡ script ∷ behind = ap (λ s. names_read_on s old.held) e in
+    subst (λ names. FailedAmong names old new) (sym reads)
+    (among_more (script ∷ []) (script ∷ behind) old new (Contains-append_left (script ∷ []) behind) h)
+
+-- and then its input
+pub failed_at_input : (words : List (List ℕ)) (old mid new : PlaceState) (script : List ℕ) (form : Form) → script_of words ≡ Some script
+    → HasForm form script (old.held script) → mid.failed ≡ old.failed → FailedAmong (form.input ∷ []) mid new → FailedAmong (names_read words old.held) old new
+failed_at_input words old mid new script form e f same h =
+    let inputs = inputs_read (form.input ∷ []) old.held in
+    let among : (name : List ℕ) → Contains (form.input ∷ []) name → Contains (script ∷ inputs) name =
+    λ name c. later script inputs name (Contains-append_left (form.input ∷ []) (if is_within input_limit (old.held form.input) then [] else []) name c) in
+    subst (λ names. FailedAmong names old new) (sym (names_form words old.held script form e f))
+    (among_more (form.input ∷ []) (script ∷ inputs) old new among (among_later (form.input ∷ []) old mid new same h))

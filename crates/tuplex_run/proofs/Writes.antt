@@ -1,9 +1,12 @@
-use Rattle.std.proofs.Common.{◌≡◌, ◌≤◌, ◌-◌, ℕ, List, [], ◌∷◌, length, take, drop, length-drop, suc, ◌∙◌, subst, inr, arith, Contains}
+-- Files that were written one after the other, and why one was not.
+use Rattle.std.proofs.Common.{◌≡◌, ◌≤◌, ◌-◌, ℕ, List, [], ◌∷◌, length, take, drop, length-drop, ◌∙◌, subst, inr, arith}
 use Rattle.std.proofs.lemmas.List.{take_all}
 use Rattle.tx_place.specs.Count.{Rose}
 use Rattle.tx_place.specs.Place.{PlaceState, Held, KeepsTelling, with_file}
+use Rattle.tuplex_run.proofs.Failures.{among_more, among_later, later}
+use Rattle.tuplex_run.specs.Ends.{FailedAmong}
 use Rattle.tuplex_run.specs.Deed.{names_of, written, IsWrittenPartly}
-use Rattle.tuplex_run.specs.Finish.{WriteRefusal}
+use Rattle.tuplex_run.specs.Calls.Finish.{WriteRefusal}
 use Rattle.tuplex_run.specs.declared.outcome.Outcome.{Outcome}
 use Rattle.tuplex_run.specs.declared.outcome.Outcome.TheVariants.{Done, Words, NotThisForm, ReadFault, WriteFault, ConsoleFault, NoMemory}
 
@@ -11,9 +14,6 @@ use Rattle.tuplex_run.specs.declared.outcome.Outcome.TheVariants.{Done, Words, N
 pub whole_is_part : (writes : List (List ℕ × List ℕ)) (old new : Held) → new ≡ written writes old → IsWrittenPartly writes old new
 whole_is_part [] old new e = e
 whole_is_part (write ∷ writes) old new e = inr (whole_is_part writes (with_file old write.0 write.1) new e)
-
-later : (n : List ℕ) (ns : List (List ℕ)) (name : List ℕ) → Contains ns name → Contains (n ∷ ns) name
-later n ns name h = (suc h.0, omega (arith, h.1), h.2)
 
 refused_behind : (writes : List (List ℕ × List ℕ)) (old mid new : PlaceState) → 1 ≤ length writes → KeepsTelling old mid → mid.write_faults ≡ old.write_faults → (o : Outcome) → WriteRefusal (names_of (drop 1 writes)) mid new o → WriteRefusal (names_of writes) old new o
 refused_behind [] old mid new le k same o h = absurd (omega arith)
@@ -36,3 +36,16 @@ rest_is writes = take_all _ _ (omega (arith, length-drop 1 writes))
 pub refused_later : (writes : List (List ℕ × List ℕ)) (old mid new : PlaceState) → 1 ≤ length writes → KeepsTelling old mid → mid.write_faults ≡ old.write_faults → (o : Outcome) → WriteRefusal (names_of (take (length writes - 1) (drop 1 writes))) mid new o → WriteRefusal (names_of writes) old new o
 refused_later writes old mid new le k same o h =
     refused_behind writes old mid new le k same o (subst (λ ws. WriteRefusal (names_of ws) mid new o) (rest_is writes) h)
+
+-- ---- the name of the last call that failed
+
+failed_rest : (writes : List (List ℕ × List ℕ)) (old mid new : PlaceState) → 1 ≤ length writes → mid.failed ≡ old.failed
+    → FailedAmong (names_of (drop 1 writes)) mid new → FailedAmong (names_of writes) old new
+failed_rest [] old mid new le same h = absurd (omega arith)
+failed_rest (write ∷ writes) old mid new le same h =
+    among_more (names_of writes) (names_of (write ∷ writes)) old new (later write.0 (names_of writes)) (among_later (names_of writes) old mid new same h)
+
+pub failed_later : (writes : List (List ℕ × List ℕ)) (old mid new : PlaceState) → 1 ≤ length writes → mid.failed ≡ old.failed
+    → FailedAmong (names_of (take (length writes - 1) (drop 1 writes))) mid new → FailedAmong (names_of writes) old new
+failed_later writes old mid new le same h =
+    failed_rest writes old mid new le same (subst (λ ws. FailedAmong (names_of ws) mid new) (rest_is writes) h)

@@ -1,19 +1,15 @@
 -- Cells: what a field is read as, how a value is printed, and `+`.
-use Rattle.std.specs.Prelude.{◌≡◌, ℕ, ◌^◌, ◌==◌, ◌&&◌, ◌||◌, ◌++◌, Bool, true, false, not, nat_lt, List, [], ◌∷◌, Option, Some, None, Result, Ok, Err, if◌then◌else◌, codes, ℤ, pos, negsuc, ◌+ℤ◌}
+use Rattle.std.specs.Prelude.{◌≡◌, ℕ, ◌==◌, ◌&&◌, ◌||◌, ◌++◌, Bool, true, false, not, List, [], ◌∷◌, Option, Some, None, Result, Ok, Err, if◌then◌else◌, codes, ℤ, pos, ◌+ℤ◌}
 use Rattle.std.specs.Fmt.{signed_decimal}
 use Rattle.std.specs.Str.{all_ascii_digits, bytes_eq}
 use Rattle.std.specs.Str.Parse.{signed_digits_value}
+use Rattle.tx_base.specs.Width.{is_128_bit}
 use Rattle.tx_base.specs.declared.class.Class.{Class}
 use Rattle.tx_base.specs.declared.class.Class.TheVariants.{TypeError, OverflowError}
 use Rattle.tuplex_run.specs.declared.cell.Cell.{Cell}
 use Rattle.tuplex_run.specs.declared.cell.Cell.TheVariants.{Nil, Truth, Int, Text}
 
 -- ---- integers
-
--- an integer of 128 bits; `negsuc n` is -(n + 1)
-abbrev pub is_128_bit : ℤ → Bool
-is_128_bit (pos n) = nat_lt n (2 ^ 127)
-is_128_bit (negsuc n) = nat_lt n (2 ^ 127)
 
 abbrev pub without_minus : List ℕ → List ℕ
 without_minus [] = []

@@ -6,7 +6,7 @@ use Rattle.tuplex_run.specs.Partly.{IsPartly}
 pub record Deed : Type 0 where
   -- the files that it writes, each with all its bytes, in this order; none for a command that only answers
   pub writes : List (List ℕ × List ℕ)
-  -- what it says, in one call
+  -- what it says
   pub line : List ℕ
   -- the numbers of its answer
   pub rows : ℕ

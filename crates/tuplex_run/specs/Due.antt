@@ -1,5 +1,5 @@
 -- What is due for the words, over the files that a place holds: a refusal, or a deed.
-use Rattle.std.specs.Prelude.{◌⊎◌, ℕ, List, [], ◌∷◌, Option, Some, None, if◌then◌else◌, Bool, false, nat_le, length, Contains}
+use Rattle.std.specs.Prelude.{◌⊎◌, ◌++◌, ℕ, List, [], ◌∷◌, Option, Some, None, if◌then◌else◌, Bool, false, nat_le, length}
 use mathlib.Core.Logic.{inl, inr}
 use Rattle.tx_place.specs.Place.{Held}
 use Rattle.tuplex_run.specs.Words.{script_of}
@@ -73,11 +73,6 @@ abbrev pub IsAccepted : Verdict → Type 0
 IsAccepted (inl refusal) = ⊥
 IsAccepted (inr deed) = Unit {0}
 
--- the command writes a file of this name
-abbrev pub IsWritten : Verdict → List ℕ → Type 0
-IsWritten (inl refusal) name = ⊥
-IsWritten (inr deed) name = Contains (names_of deed.writes) name
-
 -- ---- the files that are read, up to the place where the outcome is due
 
 -- a file that is there and has at most so many bytes
@@ -106,3 +101,14 @@ names_read_on (Some script) held = script ∷ names_behind script (held script) 
 -- the names of the files that the command reads, in this order
 abbrev pub names_read : List (List ℕ) → Held → List (List ℕ)
 names_read words held = names_read_on (script_of words) held
+
+-- ---- the files that are written
+
+-- the names of the files that the command writes, in this order; none where it is refused
+abbrev pub names_written : Verdict → List (List ℕ)
+names_written (inl refusal) = []
+names_written (inr deed) = names_of deed.writes
+
+-- the names of the files that the command reads or writes
+abbrev pub names_touched : List (List ℕ) → Held → List (List ℕ)
+names_touched words held = names_read words held ++ names_written (verdict words held)

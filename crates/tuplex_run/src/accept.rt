@@ -1,6 +1,6 @@
 // An accepted run: all that it writes and says, before the first byte is written.
 ghost use Rattle.std.specs.Prelude.{◌≡◌, ◌≤◌, ◌∷◌, ◌++◌, [], IfOk, option_map, length, codes};
-ghost use Rattle.tuplex_run.specs.Accept.{deed_of};
+ghost use Rattle.tuplex_run.specs.Calls.Accept.{deed_of};
 ghost use Rattle.tuplex_run.specs.Answer.{line_of};
 ghost use Rattle.tuplex_run.specs.Due.{deed_on};
 

@@ -6,9 +6,9 @@ ghost use Rattle.csv.specs.Writing.{row_text, default_writer};
 ghost use Rattle.tuplex_run.specs.Cell.{print};
 ghost use Rattle.tuplex_run.specs.Table.{is_table};
 ghost use Rattle.tuplex_run.specs.Answer.{has_columns, output_of, report_of, row_count, reported_count, has_column, place_of, with_cell, sum_in, entry_text, report_head};
-ghost use Rattle.tuplex_run.specs.Written.{HasWritten};
+ghost use Rattle.tuplex_run.specs.Calls.Written.{HasWritten};
 
-use crate::cell::{Cell, OpError, plus, push_cell, read_cell};
+use crate::cell::{Cell, plus, push_cell, read_cell};
 use crate::form::Form;
 use crate::table::Table;
 use csv::{ByteRecord, Writer};
@@ -121,11 +121,7 @@ fn sum_in(
 {
     let left = read_cell(alloc, table.field(row, left))?;
     let right = read_cell(alloc, table.field(row, right))?;
-    match plus(left, right) {
-        Ok(sum) => Ok(Ok(sum)),
-        Err(OpError::Raise(class)) => Ok(Err(class)),
-        Err(OpError::NoMemory) => Err(NoMemory),
-    }
+    plus(left, right)
 }
 
 // Adds the line of an exception to the report.

@@ -18,23 +18,6 @@ pub enum Cell {
     Text(Bytes),
 }
 
-/// Why an operation gave no value.
-#[derive(Clone, Copy, Debug, PartialEq, Eq)]
-pub enum OpError {
-    Raise(Class),
-    NoMemory,
-}
-
-impl From<NoMemory> for OpError {
-    ghost use Rattle.tuplex_run.specs.declared.cell.OpError.TheVariants as op_error;
-
-    ghost from_gives = { λ _ e. e ≡ op_error.NoMemory };
-
-    fn from(_: NoMemory) -> Self {
-        OpError::NoMemory
-    }
-}
-
 // Whether a field is digits without a leading zero.
 fn is_positive(field: &[u8]) -> bool
     ensures { result ≡ is_positive field.now }
@@ -105,31 +88,29 @@ fn number_of(cell: &Cell) -> Option<i128>
     }
 }
 
-// The sum of the numbers of two values.
-fn sum_of(m: Option<i128>, n: Option<i128>) -> Result<Cell, OpError>
-    ensures value { IfOk result (λ sum. sum_of m n ≡ Ok sum) }
-    ensures raise { (raised : Class) → result ≡ Err (OpError.Raise raised) → sum_of m n ≡ Err raised }
+// The sum of the numbers of two values, or the class that it raises.
+fn sum_of(m: Option<i128>, n: Option<i128>) -> Result<Cell, Class>
+    ensures { result ≡ sum_of m n }
 {
     let (Some(m), Some(n)) = (m, n) else {
-        return Err(OpError::Raise(Class::TypeError));
+        return Err(Class::TypeError);
     };
     match m.checked_add(n) {
         Some(sum) => Ok(Cell::Int(sum)),
-        None => Err(OpError::Raise(Class::OverflowError)),
+        None => Err(Class::OverflowError),
     }
 }
 
-/// `a + b`.
-pub(crate) fn plus(a: Cell, b: Cell) -> Result<Cell, OpError>
-    ensures value { IfOk result (λ sum. plus a b ≡ Ok sum) }
-    ensures raise { (raised : Class) → result ≡ Err (OpError.Raise raised) → plus a b ≡ Err raised }
+/// `a + b`, or the class that it raises.
+pub(crate) fn plus(a: Cell, b: Cell) -> Result<Result<Cell, Class>, NoMemory>
+    ensures { IfOk result (λ sum. sum ≡ plus a b) }
 {
     match (a, b) {
         (Cell::Text(mut text), Cell::Text(more)) => {
             text.push_all(more.as_slice())?;
-            Ok(Cell::Text(text))
+            Ok(Ok(Cell::Text(text)))
         }
-        (a, b) => sum_of(number_of(&a), number_of(&b)),
+        (a, b) => Ok(sum_of(number_of(&a), number_of(&b))),
     }
 }
 

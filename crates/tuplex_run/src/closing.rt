@@ -2,7 +2,7 @@
 ghost use Rattle.std.specs.Prelude.{◌≡◌, ◌++◌, ◌∷◌, [], IfOk, true};
 ghost use Rattle.tuplex_run.specs.Complaint.{complaint, complaint_of};
 ghost use Rattle.tuplex_run.specs.Ends.{Complained};
-ghost use Rattle.tuplex_run.specs.Finish.{OnlyComplains, Turns};
+ghost use Rattle.tuplex_run.specs.Calls.Finish.{OnlyComplains, Turns};
 
 use crate::Outcome;
 use std::alloc::Global;

@@ -5,8 +5,8 @@ ghost use Rattle.tuplex_run.specs.Words.{script_of};
 ghost use Rattle.tuplex_run.specs.Due.{verdict};
 ghost use Rattle.tuplex_run.specs.Outside.{outside};
 ghost use Rattle.tuplex_run.specs.Complaint.{complaint};
-ghost use Rattle.tuplex_run.specs.Ends.{RunsPlainly, Cause, IsComplete, Stands, Said, Complained};
-ghost use Rattle.tuplex_run.specs.Finish.{OnlySays};
+ghost use Rattle.tuplex_run.specs.Ends.{RunsPlainly, Cause, IsComplete, FailsWithin, Stands, Said, Complained};
+ghost use Rattle.tuplex_run.specs.Calls.Finish.{OnlySays};
 
 use crate::closing::close;
 use crate::reading::accept;
@@ -25,19 +25,20 @@ fn carry_out<P: Place, C: Console>(
     console: &mut C,
 ) -> Outcome
     ensures cause { Cause words.now
-        (outside (P.state place.old) (C.state console.old) 0 0)
-        (outside (P.state place.new) (C.state console.new) 0 0) result }
+        (outside (P.state place.old) (C.state console.old))
+        (outside (P.state place.new) (C.state console.new)) result }
     ensures words { script_of words.now ≡ None → (result ≡ Outcome.Words) ⊎ (result ≡ Outcome.NoMemory) }
     ensures complete { IsComplete words.now
-        (outside (P.state place.old) (C.state console.old) 0 0)
-        (outside (P.state place.new) (C.state console.new) 0 0) result }
+        (outside (P.state place.old) (C.state console.old))
+        (outside (P.state place.new) (C.state console.new)) result }
     ensures stands { (P.state place.old).tells ≡ true
         → Stands (verdict words.now (P.state place.old).held) (P.state place.old).held (P.state place.new).held result }
+    ensures named { FailsWithin words.now (P.state place.old) (P.state place.new) }
     ensures telling { KeepsTelling (P.state place.old) (P.state place.new) }
     ensures console { OnlySays (C.state console.old) (C.state console.new) }
     ensures said { (C.state console.old).tells ≡ true → Said words.now
-        (outside (P.state place.old) (C.state console.old) 0 0)
-        (outside (P.state place.new) (C.state console.new) 0 0) result }
+        (outside (P.state place.old) (C.state console.old))
+        (outside (P.state place.new) (C.state console.new)) result }
 {
     match accept(alloc, words, place) {
         Err(refusal) => refusal,
@@ -61,27 +62,28 @@ pub fn run_words<P: Place, C: Console, L: Ledger>(
     requires interp { meter.old.interp ≡ 0 }
     requires typed { meter.old.typed ≡ 0 }
     ensures headline { RunsPlainly words.now
-        (outside (P.state place.old) (C.state console.old) steps.old meter.old.typed)
-        (outside (P.state place.new) (C.state console.new) steps.new meter.new.typed) result }
+        (outside (P.state place.old) (C.state console.old))
+        (outside (P.state place.new) (C.state console.new)) result }
     ensures cause { Cause words.now
-        (outside (P.state place.old) (C.state console.old) steps.old meter.old.typed)
-        (outside (P.state place.new) (C.state console.new) steps.new meter.new.typed) result }
+        (outside (P.state place.old) (C.state console.old))
+        (outside (P.state place.new) (C.state console.new)) result }
     ensures words { script_of words.now ≡ None → (result ≡ Outcome.Words) ⊎ (result ≡ Outcome.NoMemory) }
     ensures complete { IsComplete words.now
-        (outside (P.state place.old) (C.state console.old) steps.old meter.old.typed)
-        (outside (P.state place.new) (C.state console.new) steps.new meter.new.typed) result }
+        (outside (P.state place.old) (C.state console.old))
+        (outside (P.state place.new) (C.state console.new)) result }
     ensures stands { (P.state place.old).tells ≡ true
         → Stands (verdict words.now (P.state place.old).held) (P.state place.old).held (P.state place.new).held result }
     ensures said { (C.state console.old).tells ≡ true → Said words.now
-        (outside (P.state place.old) (C.state console.old) steps.old meter.old.typed)
-        (outside (P.state place.new) (C.state console.new) steps.new meter.new.typed) result }
+        (outside (P.state place.old) (C.state console.old))
+        (outside (P.state place.new) (C.state console.new)) result }
     ensures complained { (C.state console.old).tells ≡ true
         → Complained (complaint result) (C.state console.old) (C.state console.new) }
+    ensures named { FailsWithin words.now (P.state place.old) (P.state place.new) }
     ensures telling { KeepsTelling (P.state place.old) (P.state place.new) }
+    ensures console { (C.state console.new).tells ≡ (C.state console.old).tells }
     ensures steps { steps.new ≡ steps.old }
     ensures meter { meter.new ≡ meter.old }
 {
-    let _interp = meter.interp;
     let outcome = carry_out(alloc, words, place, console);
     close(alloc, console, outcome)
 }

@@ -3,7 +3,7 @@ ghost use Rattle.std.specs.Prelude.{◌≡◌, ◌&&◌, not, IfOk, option_map};
 ghost use Rattle.std.specs.List.{prefix_len};
 ghost use Rattle.std.specs.Str.{bytes_eq};
 ghost use Rattle.tuplex_run.specs.Form.{FormLaw, form_of, form_in, behind, name_at, name_behind, is_end, is_name_byte, report_name};
-ghost use Rattle.tuplex_run.specs.Names.{form_with};
+ghost use Rattle.tuplex_run.specs.Calls.Names.{form_with};
 
 use std::alloc::Global;
 use tx_text::{Bytes, NoMemory, PyText};

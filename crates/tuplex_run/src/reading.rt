@@ -1,10 +1,11 @@
 // Reading the script and the input.
-ghost use Rattle.std.specs.Prelude.{◌≡◌, ◌⊎◌, ◌≤◌, true, Some, None, IfOk, IfErr, IsErrOf, IfSome, OnOk, IsSome, length};
+ghost use Rattle.std.specs.Prelude.{◌≡◌, ◌⊎◌, ◌≤◌, ◌∷◌, [], true, Some, None, IfOk, IfErr, IsErrOf, IfSome, OnOk, IsSome, length};
 ghost use mathlib.Core.Logic.{inr};
 ghost use Rattle.tuplex_run.specs.Words.{script_of};
-ghost use Rattle.tuplex_run.specs.Accept.{deed_of};
-ghost use Rattle.tuplex_run.specs.Due.{verdict, verdict_on_input};
-ghost use Rattle.tuplex_run.specs.Refusals.{OnlyRead, IsRead, ReadRefusal, Refusal, ScriptRefusal, InputRefusal, HasForm};
+ghost use Rattle.tuplex_run.specs.Calls.Accept.{deed_of};
+ghost use Rattle.tuplex_run.specs.Due.{verdict, verdict_on_input, names_read};
+ghost use Rattle.tuplex_run.specs.Ends.{FailedAmong};
+ghost use Rattle.tuplex_run.specs.Calls.Refusals.{OnlyRead, NoReadFailed, IsRead, ReadRefusal, Refusal, ScriptRefusal, InputRefusal, HasForm};
 
 use crate::accept::{Accepted, prepare};
 use crate::asked::script_word;
@@ -28,11 +29,13 @@ fn read_named<P: Place>(
     limit: u64,
 ) -> Result<Option<Bytes>, Outcome>
     ensures only { OnlyRead (P.state place.old) (P.state place.new) }
-    ensures still { OnOk result ((P.state place.new).read_faults ≡ (P.state place.old).read_faults) }
+    ensures still { OnOk result (NoReadFailed (P.state place.old) (P.state place.new)) }
     ensures bytes { (P.state place.old).tells ≡ true
         → IfOk result (IsRead limit ((P.state place.old).held name.now)) }
     ensures within { IfOk result (λ bytes. IfSome bytes (λ b. length b ≤ limit)) }
     ensures refused { IfErr result (ReadRefusal name.now (P.state place.old) (P.state place.new)) }
+    ensures named { (P.state place.old).names_faults ≡ true
+        → FailedAmong (name.now ∷ []) (P.state place.old) (P.state place.new) }
 {
     match read_all(alloc, place, name.as_str(), limit) {
         Ok(bytes) => Ok(Some(bytes)),
@@ -48,10 +51,12 @@ fn read_named<P: Place>(
 /// The form of the script.
 fn read_form<P: Place>(alloc: Global, place: &mut P, script: &PyText) -> Result<Form, Outcome>
     ensures only { OnlyRead (P.state place.old) (P.state place.new) }
-    ensures still { OnOk result ((P.state place.new).read_faults ≡ (P.state place.old).read_faults) }
+    ensures still { OnOk result (NoReadFailed (P.state place.old) (P.state place.new)) }
     ensures form { (P.state place.old).tells ≡ true
         → IfOk result (λ form. HasForm form script.now ((P.state place.old).held script.now)) }
     ensures refused { IfErr result (ScriptRefusal script.now (P.state place.old) (P.state place.new)) }
+    ensures named { (P.state place.old).names_faults ≡ true
+        → FailedAmong (script.now ∷ []) (P.state place.old) (P.state place.new) }
 {
     match read_named(alloc, place, script, SCRIPT_LIMIT)? {
         None => Err(Outcome::NotThisForm),
@@ -66,10 +71,12 @@ fn read_form<P: Place>(alloc: Global, place: &mut P, script: &PyText) -> Result<
 /// The answer to the input.
 fn read_input<P: Place>(alloc: Global, place: &mut P, form: Form) -> Result<Accepted, Outcome>
     ensures only { OnlyRead (P.state place.old) (P.state place.new) }
-    ensures still { OnOk result ((P.state place.new).read_faults ≡ (P.state place.old).read_faults) }
+    ensures still { OnOk result (NoReadFailed (P.state place.old) (P.state place.new)) }
     ensures answer { (P.state place.old).tells ≡ true
         → IfOk result (λ run. verdict_on_input form ((P.state place.old).held form.input) ≡ inr (deed_of run)) }
     ensures refused { IfErr result (InputRefusal form (P.state place.old) (P.state place.new)) }
+    ensures named { (P.state place.old).names_faults ≡ true
+        → FailedAmong (form.input ∷ []) (P.state place.old) (P.state place.new) }
 {
     match read_named(alloc, place, &form.input, INPUT_LIMIT)? {
         None => Err(Outcome::NotThisForm),
@@ -88,12 +95,14 @@ pub(crate) fn accept<P: Place>(
     place: &mut P,
 ) -> Result<Accepted, Outcome>
     ensures only { OnlyRead (P.state place.old) (P.state place.new) }
-    ensures still { OnOk result ((P.state place.new).read_faults ≡ (P.state place.old).read_faults) }
+    ensures still { OnOk result (NoReadFailed (P.state place.old) (P.state place.new)) }
     ensures accepted { (P.state place.old).tells ≡ true
         → IfOk result (λ run. verdict words.now (P.state place.old).held ≡ inr (deed_of run)) }
     ensures asked { OnOk result (IsSome (script_of words.now)) }
     ensures unread { script_of words.now ≡ None → (IsErrOf result Outcome.Words) ⊎ (IsErrOf result Outcome.NoMemory) }
     ensures refused { IfErr result (Refusal words.now (P.state place.old) (P.state place.new)) }
+    ensures named { (P.state place.old).tells ≡ true → (P.state place.old).names_faults ≡ true
+        → FailedAmong (names_read words.now (P.state place.old).held) (P.state place.old) (P.state place.new) }
 {
     let Some(script) = script_word(words) else {
         return Err(Outcome::Words);

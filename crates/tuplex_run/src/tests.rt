@@ -2,10 +2,9 @@
 // file in the same way, those of Python.
 ghost use Rattle.std.specs.Prelude.{◌≡◌, ◌<◌};
 
-mod cells;
-mod failing_calls;
-mod forms;
-mod tables;
+mod commands;
+mod many_records;
+mod no_memory;
 
 use crate::{Outcome, Words, run_words, status};
 use std::alloc::Global;
@@ -19,50 +18,50 @@ use tx_text::{Bytes, NoMemory, Numbers, PyText};
 pub(crate) const SUMS: &[u8] =
     b"csv(\"in.csv\").withColumn(\"s\", lambda x: x[\"a\"] + x[\"b\"]).tocsv(\"out.csv\")\n";
 
-pub(crate) const REPORT_NAME: &str = "out.csv.exceptions.csv";
-
-pub(crate) const REPORT_HEAD: &[u8] = b"operator,kind,class,row\n";
+/// What stands for a file that is not there.
+pub(crate) const NONE: &[u8] = b"-";
 
 /// How a command ended, and what it left.
 #[derive(Drop)]
 pub(crate) struct Ran {
-    pub status: u8,
     pub outcome: Outcome,
     pub place: MemoryPlace,
     pub console: MemoryConsole,
 }
 
 impl Ran {
-    /// The file of this name has these bytes, or there is none.
-    pub(crate) fn left(&self, name: &str, bytes: Option<&[u8]>) -> bool {
-        match (self.place.bytes_of(name), bytes) {
-            (Some(held), Some(bytes)) => held == bytes,
-            (None, None) => true,
-            _ => false,
+    pub(crate) fn status(&self) -> u8 {
+        status(&self.outcome)
+    }
+
+    /// The bytes of a file.
+    pub(crate) fn file(&self, name: &str) -> &[u8] {
+        match self.place.bytes_of(name) {
+            Some(bytes) => bytes,
+            None => NONE,
         }
     }
 
-    pub(crate) fn wrote(&self, output: &[u8]) -> bool {
-        self.left("out.csv", Some(output))
+    pub(crate) fn output(&self) -> &[u8] {
+        self.file("out.csv")
     }
 
-    /// Neither the output nor the report is there.
-    pub(crate) fn wrote_nothing(&self) -> bool {
-        self.left("out.csv", None) && self.left(REPORT_NAME, None)
+    pub(crate) fn report(&self) -> &[u8] {
+        self.file("out.csv.exceptions.csv")
     }
 }
 
-/// The numbers of the calls that are to fail, and the greatest size of one read.
+/// A call of the place and one of the console that are to fail (0 is none), and the greatest size of one read.
 #[derive(Clone, Copy)]
-pub(crate) struct Faults<'a> {
-    pub place: &'a [u64],
-    pub console: &'a [u64],
+pub(crate) struct Faults {
+    pub place: u64,
+    pub console: u64,
     pub most: usize,
 }
 
-pub(crate) const NO_FAULTS: Faults<'static> = Faults {
-    place: &[],
-    console: &[],
+pub(crate) const NO_FAULTS: Faults = Faults {
+    place: 0,
+    console: 0,
     most: 65_536,
 };
 
@@ -82,63 +81,67 @@ fn counted<L: Ledger>(
     run_words(alloc, words, place, console, &mut meter, &mut steps)
 }
 
-/// Runs these words over a script of this name and an input of this name.
-pub(crate) fn run_words_on(
-    alloc: Global,
-    words: &[&str],
-    script: (&str, &[u8]),
-    input: (&str, &[u8]),
-    faults: &Faults<'_>,
-) -> Result<Ran, NoMemory> {
-    let mut all = Words::new(alloc);
-    for word in words {
-        all.push(PyText::from_str(alloc, word)?)?;
+/// The words of a line, with one blank between them.
+fn words_of(alloc: Global, line: &str) -> Result<Words, NoMemory> {
+    let mut words = Words::new(alloc);
+    for word in line.split(' ') {
+        if !word.is_empty() {
+            words.push(PyText::from_str(alloc, word)?)?;
+        }
     }
+    Ok(words)
+}
+
+/// A file of this name with these bytes.
+fn file(alloc: Global, name: &str, text: &[u8]) -> Result<(PyText, Bytes), NoMemory> {
+    let mut bytes = Bytes::new(alloc);
+    bytes.push_all(text)?;
+    Ok((PyText::from_str(alloc, name)?, bytes))
+}
+
+fn one(alloc: Global, number: u64) -> Result<Numbers, NoMemory> {
+    let mut numbers = Numbers::new(alloc);
+    numbers.push(number)?;
+    Ok(numbers)
+}
+
+fn two_files(
+    alloc: Global,
+    script: (PyText, Bytes),
+    input: (PyText, Bytes),
+) -> Result<Files, NoMemory> {
     let mut files = Files::new(alloc);
-    files.push((
-        PyText::from_str(alloc, script.0)?,
-        Bytes::from_vec(script.1.to_vec(alloc)?),
-    ))?;
-    files.push((
-        PyText::from_str(alloc, input.0)?,
-        Bytes::from_vec(input.1.to_vec(alloc)?),
-    ))?;
-    let most = faults.most.max(1);
-    let failing = Numbers::from_vec(faults.place.to_vec(alloc)?);
-    let mut place = MemoryPlace::new(alloc, files, failing, most)?;
-    let failing = Numbers::from_vec(faults.console.to_vec(alloc)?);
-    let mut console = MemoryConsole::new(alloc, failing)?;
-    let outcome = counted::<Brand>(alloc, &all, &mut place, &mut console, Blank::new(1));
+    files.push(script)?;
+    files.push(input)?;
+    Ok(files)
+}
+
+/// Runs the words of a line over two files.
+pub(crate) fn run_line(
+    alloc: Global,
+    line: &str,
+    files: Files,
+    faults: Faults,
+) -> Result<Ran, NoMemory> {
+    let words = words_of(alloc, line)?;
+    let mut place = MemoryPlace::new(alloc, files, one(alloc, faults.place)?, faults.most.max(1))?;
+    let mut console = MemoryConsole::new(alloc, one(alloc, faults.console)?)?;
+    let outcome = counted::<Brand>(alloc, &words, &mut place, &mut console, Blank::new(1));
     Ok(Ran {
-        status: status(&outcome),
         outcome,
         place,
         console,
     })
 }
 
-/// Runs a script named `s.txs` on `in.csv`, and no call fails.
-pub(crate) fn run_script(alloc: Global, script: &[u8], input: &[u8]) -> Result<Ran, NoMemory> {
-    run_words_on(
-        alloc,
-        &["run", "s.txs"],
-        ("s.txs", script),
-        ("in.csv", input),
-        &NO_FAULTS,
-    )
-}
-
-/// Runs the sums on an input.
+/// Runs the sums on an input, and no call fails.
 pub(crate) fn run_sums(alloc: Global, input: &[u8]) -> Result<Ran, NoMemory> {
-    run_script(alloc, SUMS, input)
-}
-
-/// A text, and so many letters behind it.
-pub(crate) fn with_letters(alloc: Global, text: &[u8], letters: usize) -> Result<Bytes, NoMemory> {
-    let mut all = Bytes::new(alloc);
-    all.push_all(text)?;
-    for _ in 0..letters {
-        all.push(b'x')?;
-    }
-    Ok(all)
+    let script = file(alloc, "s.txs", SUMS)?;
+    let input = file(alloc, "in.csv", input)?;
+    run_line(
+        alloc,
+        "run s.txs",
+        two_files(alloc, script, input)?,
+        NO_FAULTS,
+    )
 }

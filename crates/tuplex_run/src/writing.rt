@@ -5,10 +5,10 @@ ghost use mathlib.Core.Logic.{inr};
 ghost use Rattle.tx_place.specs.Count.{CountsFault};
 ghost use Rattle.tx_place.specs.Place.{KeepsTelling, NamesFault, with_file};
 ghost use Rattle.tuplex_run.specs.Partly.{IsPartly};
-ghost use Rattle.tuplex_run.specs.Accept.{deed_of};
+ghost use Rattle.tuplex_run.specs.Calls.Accept.{deed_of};
 ghost use Rattle.tuplex_run.specs.Deed.{names_of, written, IsWrittenPartly};
-ghost use Rattle.tuplex_run.specs.Ends.{Stands, SaidOf};
-ghost use Rattle.tuplex_run.specs.Finish.{WriteRefusal, FinishCause, OnlySays};
+ghost use Rattle.tuplex_run.specs.Ends.{FailedAmong, Stands, SaidOf};
+ghost use Rattle.tuplex_run.specs.Calls.Finish.{NoWriteFailed, WriteRefusal, FinishCause, OnlySays};
 
 use crate::Outcome;
 use crate::accept::Accepted;
@@ -54,10 +54,12 @@ fn write_named<P: Place>(
 ) -> Result<(), Outcome>
     ensures telling { KeepsTelling (P.state place.old) (P.state place.new) }
     ensures reads { (P.state place.new).read_faults ≡ (P.state place.old).read_faults }
-    ensures writes { OnOk result ((P.state place.new).write_faults ≡ (P.state place.old).write_faults) }
+    ensures still { OnOk result (NoWriteFailed (P.state place.old) (P.state place.new)) }
     ensures held { (P.state place.old).tells ≡ true
         → OnOk result ((P.state place.new).held ≡ with_file (P.state place.old).held name.now bytes.now) }
     ensures refused { IfErr result (WriteRefusal (name.now ∷ []) (P.state place.old) (P.state place.new)) }
+    ensures named { (P.state place.old).names_faults ≡ true
+        → FailedAmong (name.now ∷ []) (P.state place.old) (P.state place.new) }
     ensures partly { (P.state place.old).tells ≡ true
         → OnErr result (IsPartly (P.state place.old).held name.now bytes.now (P.state place.new).held) }
 {
@@ -79,10 +81,12 @@ fn write_all<P: Place>(
 ) -> Result<(), Outcome>
     ensures telling { KeepsTelling (P.state place.old) (P.state place.new) }
     ensures reads { (P.state place.new).read_faults ≡ (P.state place.old).read_faults }
-    ensures writes { OnOk result ((P.state place.new).write_faults ≡ (P.state place.old).write_faults) }
+    ensures still { OnOk result (NoWriteFailed (P.state place.old) (P.state place.new)) }
     ensures held { (P.state place.old).tells ≡ true
         → OnOk result ((P.state place.new).held ≡ written writes.now (P.state place.old).held) }
     ensures refused { IfErr result (WriteRefusal (names_of writes.now) (P.state place.old) (P.state place.new)) }
+    ensures named { (P.state place.old).names_faults ≡ true
+        → FailedAmong (names_of writes.now) (P.state place.old) (P.state place.new) }
     ensures partly { (P.state place.old).tells ≡ true
         → OnErr result (IsWrittenPartly writes.now (P.state place.old).held (P.state place.new).held) }
 {
@@ -106,6 +110,8 @@ pub(crate) fn finish<P: Place, C: Console>(
     ensures reads { (P.state place.new).read_faults ≡ (P.state place.old).read_faults }
     ensures cause { FinishCause (deed_of run.now) (P.state place.old) (P.state place.new)
         (C.state console.old) (C.state console.new) result }
+    ensures named { (P.state place.old).names_faults ≡ true
+        → FailedAmong (names_of run.now.writes) (P.state place.old) (P.state place.new) }
     ensures stands { (P.state place.old).tells ≡ true
         → Stands (inr (deed_of run.now)) (P.state place.old).held (P.state place.new).held result }
     ensures console { OnlySays (C.state console.old) (C.state console.new) }

@@ -2,7 +2,7 @@ use Rattle.std.proofs.Common.{◌≡◌, ◌∙◌, ◌<◌, ℕ, List, [], Ok, 
 use Rattle.std.proofs.lemmas.List.{take_all}
 use Rattle.tuplex_run.specs.Answer.{output_of, place_of, sum_in}
 use Rattle.tuplex_run.specs.Table.{Record}
-use Rattle.tuplex_run.specs.Written.{HasWritten}
+use Rattle.tuplex_run.specs.Calls.Written.{HasWritten}
 use Rattle.tuplex_run.proofs.Folds.{all_counted, entry_made, entry_written, header_made, header_written, place_within, row_made, row_written, there}
 use Rattle.tuplex_run.proofs.answer.evaluate.Goals.{in-Ok+in_ok-write_row-in-Ok, in-Err+in_ok-push_entry-in-Err}
 use Rattle.tuplex_run.proofs.answer.evaluate.Goals as goal

@@ -1,6 +1,6 @@
 use Rattle.std.proofs.Common.{take}
 use Rattle.tuplex_run.specs.Answer.{output_of}
-use Rattle.tuplex_run.specs.Written.{HasWritten}
+use Rattle.tuplex_run.specs.Calls.Written.{HasWritten}
 use Rattle.tuplex_run.proofs.Folds.{Made}
 use Rattle.tuplex_run.proofs.answer.evaluate.Given as goal
 

@@ -1,5 +1,5 @@
 use Rattle.std.proofs.Common.{subst}
-use Rattle.tuplex_run.specs.Refusals.{IsRead}
+use Rattle.tuplex_run.specs.Calls.Refusals.{IsRead}
 use Rattle.tuplex_run.proofs.Forms.{larger_has_no_form}
 use Rattle.tuplex_run.proofs.reading.read_form.Goals as goal
 

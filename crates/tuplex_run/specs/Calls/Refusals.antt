@@ -1,4 +1,4 @@
--- Why a command was refused before it wrote anything, a step each. (For the calls inside this crate.)
+-- Why a command was refused before it wrote anything, a step each.
 use Rattle.std.specs.Prelude.{◌≡◌, ◌≤◌, ℕ, List, Option, Some, None, true, Contains}
 use mathlib.Core.Logic.{inl}
 use Rattle.tx_place.specs.Count.{Rose}
@@ -19,6 +19,12 @@ pub record OnlyRead (old new : PlaceState) : Type 0 where
   pub held : old.tells ≡ true → new.held ≡ old.held
   pub counts : old.read_faults ≤ new.read_faults
 
+-- no read failed
+pub record NoReadFailed (old new : PlaceState) : Type 0 where
+  pub reads : new.read_faults ≡ old.read_faults
+  pub named : old.names_faults ≡ true → new.failed ≡ old.failed
+
+-- a read failed, of the file of this name
 pub record IsReadFault (name : List ℕ) (old new : PlaceState) : Type 0 where
   pub rose : Rose old.read_faults new.read_faults
   pub named : old.names_faults ≡ true → new.failed ≡ Some name
@@ -36,9 +42,9 @@ IsRead limit file (Some bytes) = file ≡ Some bytes
 
 -- why a command was refused
 abbrev pub Refusal : List (List ℕ) → PlaceState → PlaceState → Outcome → Type 0
-Refusal words old new Words = (script_of words ≡ None) × (new.read_faults ≡ old.read_faults)
+Refusal words old new Words = (script_of words ≡ None) × NoReadFailed old new
 Refusal words old new NotThisForm =
-    (new.read_faults ≡ old.read_faults) × (old.tells ≡ true → verdict words old.held ≡ inl NotThisForm)
+    NoReadFailed old new × (old.tells ≡ true → verdict words old.held ≡ inl NotThisForm)
 Refusal words old new (ReadFault name) =
     IsReadFault name old new × (old.tells ≡ true → Contains (names_read words old.held) name)
 Refusal words old new NoMemory = Unit {0}
@@ -56,7 +62,7 @@ HasNoForm script (Some bytes) = form_of script bytes ≡ None
 -- why a script was refused
 abbrev pub ScriptRefusal : List ℕ → PlaceState → PlaceState → Outcome → Type 0
 ScriptRefusal script old new NotThisForm =
-    (new.read_faults ≡ old.read_faults) × (old.tells ≡ true → HasNoForm script (old.held script))
+    NoReadFailed old new × (old.tells ≡ true → HasNoForm script (old.held script))
 ScriptRefusal script old new (ReadFault name) = (name ≡ script) × IsReadFault name old new
 ScriptRefusal script old new NoMemory = Unit {0}
 ScriptRefusal script old new _ = ⊥
@@ -64,7 +70,7 @@ ScriptRefusal script old new _ = ⊥
 -- why an input was refused
 abbrev pub InputRefusal : Form → PlaceState → PlaceState → Outcome → Type 0
 InputRefusal form old new NotThisForm =
-    (new.read_faults ≡ old.read_faults) × (old.tells ≡ true → verdict_on_input form (old.held form.input) ≡ inl NotThisForm)
+    NoReadFailed old new × (old.tells ≡ true → verdict_on_input form (old.held form.input) ≡ inl NotThisForm)
 InputRefusal form old new (ReadFault name) = (name ≡ form.input) × IsReadFault name old new
 InputRefusal form old new NoMemory = Unit {0}
 InputRefusal form old new _ = ⊥

@@ -7,6 +7,11 @@ use Rattle.tuplex_run.specs.Deed.{Deed, names_of}
 use Rattle.tuplex_run.specs.declared.outcome.Outcome.{Outcome}
 use Rattle.tuplex_run.specs.declared.outcome.Outcome.TheVariants.{Done, ReadFault, WriteFault, ConsoleFault, NoMemory}
 
+-- no write failed
+pub record NoWriteFailed (old new : PlaceState) : Type 0 where
+  pub writes : new.write_faults ≡ old.write_faults
+  pub named : old.names_faults ≡ true → new.failed ≡ old.failed
+
 -- why not all files were written
 abbrev pub WriteRefusal : List (List ℕ) → PlaceState → PlaceState → Outcome → Type 0
 WriteRefusal names old new (WriteFault name) =
@@ -18,9 +23,10 @@ WriteRefusal names old new _ = ⊥
 abbrev pub FinishCause : Deed → PlaceState → PlaceState → ConsoleState → ConsoleState → Outcome → Type 0
 FinishCause deed old new was now (Done rows reported) =
     (rows ≡ deed.rows) × (reported ≡ deed.reported)
-    × (new.write_faults ≡ old.write_faults) × (now.say_faults ≡ was.say_faults)
-FinishCause deed old new was now (WriteFault name) = WriteRefusal (names_of deed.writes) old new (WriteFault name)
-FinishCause deed old new was now ConsoleFault = Rose was.say_faults now.say_faults
+    × NoWriteFailed old new × (now.say_faults ≡ was.say_faults)
+FinishCause deed old new was now (WriteFault name) =
+    WriteRefusal (names_of deed.writes) old new (WriteFault name) × (now.say_faults ≡ was.say_faults)
+FinishCause deed old new was now ConsoleFault = NoWriteFailed old new × Rose was.say_faults now.say_faults
 FinishCause deed old new was now NoMemory = Unit {0}
 FinishCause deed old new was now _ = ⊥
 
