@@ -49,6 +49,29 @@ ends() {
   holds "$work/said" "$said"
 }
 
+# both: the output and the report of the first case are whole
+both() {
+  holds out.csv 'a,b,s\n1,2,3\n3,4,7\n'
+  holds $report 'operator,kind,class,row\n'
+}
+
+# shown TEXT: what the README shows behind the line with this text
+shown() {
+  awk -v text="$1" '
+    index($0, text) && !seen { seen = 1; next }
+    seen && /^    / { print substr($0, 5); began = 1; next }
+    began { exit }
+  ' "$top/README.md"
+}
+
+# same FILE FILE: two files with the same bytes
+same() {
+  if ! cmp -s "$1" "$2"; then
+    printf 'tests: %s: %s and %s differ\n' "$name" "$1" "$2"
+    failed=1
+  fi
+}
+
 # keeps: the script and the input are as they were, and nothing was written
 keeps() {
   wants "the folder" "$(ls -A | tr '\n' ' ')" "in.csv s.txs "
@@ -62,6 +85,28 @@ fresh two-sums
 ends 0 '' 'rows 2 exceptions 0\n' run s.txs
 holds out.csv 'a,b,s\n1,2,3\n3,4,7\n'
 holds $report 'operator,kind,class,row\n'
+
+# What the README shows: its files are those of examples/, and its answers are what comes.
+mkdir "$work/readme" && cd "$work/readme" || exit 1
+name=readme
+cp "$top"/examples/two-sums/* .
+shown 'The script `sums.txs`' | cmp -s - sums.txs || wants 'the script' "$(cat sums.txs)" "$(shown 'The script `sums.txs`')"
+shown 'Its input `orders.csv`' | cmp -s - orders.csv || wants 'the input' "$(cat orders.csv)" "$(shown 'Its input `orders.csv`')"
+ends 0 '' 'rows 3 exceptions 2\n' run sums.txs
+grep -q 'It says `rows 3 exceptions 2`' "$top/README.md" || wants 'the line' 'not in the README' 'rows 3 exceptions 2'
+shown 'What it writes to `totals.csv`' >shown.csv
+same totals.csv shown.csv
+shown 'the report `totals.csv.exceptions.csv`' >shown.csv
+same totals.csv.exceptions.csv shown.csv
+
+# 100,000 records, of which every seventh raises.
+fresh many-records
+awk 'BEGIN { print "a,b"; for (i = 1; i <= 100000; i++) print (i % 7 ? i : "x") "," i % 1000 }' >in.csv
+awk 'BEGIN { print "a,b,s"; for (i = 1; i <= 100000; i++) if (i % 7) print i "," i % 1000 "," i + i % 1000 }' >wanted.csv
+awk 'BEGIN { print "operator,kind,class,row"; for (i = 7; i <= 100000; i += 7) print "2,withColumn,TypeError,1:" i }' >wanted.report
+ends 0 '' 'rows 85715 exceptions 14285\n' run s.txs
+same out.csv wanted.csv
+same $report wanted.report
 
 fresh no-words
 ends 2 "$usage" ''
@@ -117,6 +162,64 @@ wants status "$?" 9
 holds "$work/complained" ''
 holds out.csv 'a,b,s\n1,2,3\n3,4,7\n'
 holds $report 'operator,kind,class,row\n'
+
+fresh a-full-disk
+ln -s /dev/full out.csv
+ends 7 'tuplex: out.csv: write failed\n' '' run s.txs
+wants "the folder" "$(ls -A | tr '\n' ' ')" "in.csv out.csv s.txs "
+
+# A standard descriptor that is closed: what is said or complained there is lost, and lands in no file.
+fresh a-closed-output
+"$program" run s.txs >&- 2>"$work/complained"
+wants status "$?" 9
+holds "$work/complained" ''
+both
+
+fresh closed-complaints
+"$program" run s.txs 2>&- >"$work/said"
+wants status "$?" 0
+holds "$work/said" 'rows 2 exceptions 0\n'
+both
+
+fresh a-complaint-that-is-lost
+mkdir $report
+"$program" run s.txs 2>&- >"$work/said"
+wants status "$?" 7
+holds "$work/said" ''
+holds out.csv 'a,b,s\n1,2,3\n3,4,7\n'
+
+fresh a-full-report-and-a-lost-complaint
+ln -s /dev/full $report
+"$program" run s.txs >&- 2>&-
+wants status "$?" 7
+holds out.csv 'a,b,s\n1,2,3\n3,4,7\n'
+
+fresh both-closed
+"$program" run s.txs >&- 2>&-
+wants status "$?" 9
+both
+
+fresh all-closed
+"$program" run s.txs <&- >&- 2>&-
+wants status "$?" 9
+both
+
+fresh no-input
+"$program" run s.txs <&- >"$work/said" 2>"$work/complained"
+wants status "$?" 0
+holds "$work/said" 'rows 2 exceptions 0\n'
+both
+
+fresh no-input-and-no-output
+"$program" run s.txs <&- >&- 2>"$work/complained"
+wants status "$?" 9
+both
+
+fresh no-input-and-no-complaints
+"$program" run s.txs <&- 2>&- >"$work/said"
+wants status "$?" 0
+holds "$work/said" 'rows 2 exceptions 0\n'
+both
 
 fresh overwritten-files
 printf 'old\n' >out.csv

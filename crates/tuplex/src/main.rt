@@ -1,11 +1,18 @@
 //! The program: it makes the words, the place, the console and the counts, and ends with the status of the outcome.
 #![tactic(auto)]
 
-ghost use Rattle.std.specs.Prelude.{◌≡◌, ◌<◌};
+ghost use Rattle.std.specs.Prelude.{◌≡◌, ◌⊎◌, ◌<◌, None, true};
+ghost use Rattle.tx_place.specs.Place.{KeepsTelling};
+ghost use Rattle.tuplex_run.specs.Words.{script_of};
+ghost use Rattle.tuplex_run.specs.Due.{verdict};
+ghost use Rattle.tuplex_run.specs.Outside.{outside};
+ghost use Rattle.tuplex_run.specs.Complaint.{complaint};
+ghost use Rattle.tuplex_run.specs.Ends.{RunsPlainly, Cause, IsComplete, FailsWithin, Stands, Said, Complained};
 
 use std::alloc::Global;
 use std::env;
 use std::env::Env;
+use std::fs::{File, Files};
 use std::io::ErrorKind;
 use std::marker::Brand;
 use std::process::ExitCode;
@@ -15,8 +22,19 @@ use tx_base::{Meter, Steps};
 use tx_place::{Console, Place, RealConsole, RealPlace};
 use tx_text::{NoMemory, PyText, Texts};
 
-/// The status where the words find no memory. Nothing else that is made ahead of the run takes any.
-const MEMORY_STATUS: u8 = 8;
+/// A file of nothing.
+const NOTHING: &str = "/dev/null";
+
+// Opening a file takes the lowest descriptor that is free. So where some of the three standard ones are closed, the
+// first of these files take their places, and no file of the command's does: what is written there then fails, since
+// these are open for reading alone.
+fn standard_descriptors<R: Files>(files: &R) -> [Option<R::File>; 3] {
+    [
+        File::open(files, NOTHING).ok(),
+        File::open(files, NOTHING).ok(),
+        File::open(files, NOTHING).ok(),
+    ]
+}
 
 // The words behind the program's own name; none where one of them is no text, which no command reads.
 fn words<R: Env + Alloc>(alloc: Global, rt: &R) -> Result<Texts, NoMemory> {
@@ -38,6 +56,7 @@ fn words<R: Env + Alloc>(alloc: Global, rt: &R) -> Result<Texts, NoMemory> {
     }
 }
 
+// The whole command, with counts of its own.
 fn run<P: Place, C: Console, L: Ledger>(
     alloc: Global,
     words: &Texts,
@@ -48,6 +67,26 @@ fn run<P: Place, C: Console, L: Ledger>(
     requires name { blank.name ≡ L.name }
     requires parts { blank.parts ≡ L.parts }
     requires some { 0 < L.parts }
+    ensures headline { RunsPlainly words.now
+        (outside (P.state place.old) (C.state console.old))
+        (outside (P.state place.new) (C.state console.new)) result }
+    ensures cause { Cause words.now
+        (outside (P.state place.old) (C.state console.old))
+        (outside (P.state place.new) (C.state console.new)) result }
+    ensures words { script_of words.now ≡ None → (result ≡ Outcome.Words) ⊎ (result ≡ Outcome.NoMemory) }
+    ensures complete { IsComplete words.now
+        (outside (P.state place.old) (C.state console.old))
+        (outside (P.state place.new) (C.state console.new)) result }
+    ensures stands { (P.state place.old).tells ≡ true
+        → Stands (verdict words.now (P.state place.old).held) (P.state place.old).held (P.state place.new).held result }
+    ensures said { (C.state console.old).tells ≡ true → Said words.now
+        (outside (P.state place.old) (C.state console.old))
+        (outside (P.state place.new) (C.state console.new)) result }
+    ensures complained { (C.state console.old).tells ≡ true
+        → Complained (complaint result) (C.state console.old) (C.state console.new) }
+    ensures named { FailsWithin words.now (P.state place.old) (P.state place.new) }
+    ensures telling { KeepsTelling (P.state place.old) (P.state place.new) }
+    ensures console { (C.state console.new).tells ≡ (C.state console.old).tells }
 {
     let mut meter = Meter::new();
     let mut steps = Steps::<L>::open(blank);
@@ -55,9 +94,10 @@ fn run<P: Place, C: Console, L: Ledger>(
 }
 
 fn main(rt: HostRuntime) -> ExitCode {
+    let _held = standard_descriptors(&rt);
     let alloc = rt.alloc();
     let Ok(words) = words(alloc, &rt) else {
-        return ExitCode::from(MEMORY_STATUS);
+        return ExitCode::from(status(&Outcome::NoMemory));
     };
     let mut console = RealConsole::new(rt.stdout(), rt.stderr());
     let mut place = RealPlace::new(alloc, rt);
