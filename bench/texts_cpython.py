@@ -8,6 +8,11 @@ text has letters past U+00FF, both sides add the length of the text.
 import sys
 
 
+def pairs(cells):
+    """Each cell behind the one before it, and the first behind itself."""
+    return zip(cells[:1] + cells, cells)
+
+
 def none(cells):
     return 0
 
@@ -29,11 +34,11 @@ def slice_(cells):
 
 
 def equal(cells):
-    return sum([a == b for a, b in zip(cells, cells[1:])])
+    return sum([a == b for a, b in pairs(cells)])
 
 
 def less(cells):
-    return sum([a < b for a, b in zip(cells, cells[1:])])
+    return sum([a < b for a, b in pairs(cells)])
 
 
 def find(cells):
@@ -81,7 +86,7 @@ def is_digit(cells):
 
 
 def concat(cells):
-    return sum([len(a + b) for a, b in zip(cells, cells[1:])])
+    return sum([len(a + b) for a, b in pairs(cells)])
 
 
 def repeat(cells):

@@ -1,5 +1,5 @@
 //! Times one method of `PyText`: `text_bench METHOD FILE ROUNDS` calls it on each line of a file, so many times over,
-//! and prints its word and a sum that depends on every answer. `bench/texts` compares it with CPython.
+//! and prints its word and a sum of the answers' lengths, places, counts or truths. `bench/texts` compares it with CPython.
 #![tactic(auto)]
 
 ghost use Rattle.std.specs.Prelude.{◌≡◌};

@@ -1,6 +1,6 @@
 // One run: the words, the cells of the file, and the line.
 use crate::method::{Method, named};
-use crate::timed::{letter, round};
+use crate::timed::{Given, letter, round};
 use std::alloc::{AllocError, Global};
 use tx_place::{Console, Place, ReadError, read_all};
 use tx_text::{NoMemory, PyText, Texts, Utf8Fault};
@@ -56,9 +56,10 @@ fn cells_of<P: Place>(alloc: Global, place: &mut P, name: &str) -> Result<Texts,
 
 // The sum over so many rounds.
 fn sum_of(alloc: Global, method: Method, cells: &[PyText], rounds: u64) -> Result<u64, NoMemory> {
+    let (comma, given) = (letter(alloc, ',')?, Given::new(alloc)?);
     let mut sum = 0u64;
     for _ in 0..rounds {
-        sum = sum.wrapping_add(round(alloc, method, cells)?);
+        sum = sum.wrapping_add(round(method, cells, &comma, &given)?);
     }
     Ok(sum)
 }

@@ -1,4 +1,4 @@
-// One round of each method over all cells: a sum that depends on every answer.
+// One round of a method over all cells. What is summed of each answer is its length, its place, its count or its truth.
 ghost use Rattle.std.specs.Prelude.{◌≡◌, ◌≢◌, [], ◌∷◌, IfOk};
 
 use crate::method::Method;
@@ -7,6 +7,9 @@ use tx_text::{Long, NoMemory, PyText, Side, Texts};
 
 /// Where `char_at` looks.
 const AT: usize = 5;
+
+/// How many characters `slice` takes.
+const PART: usize = 16;
 
 /// How often `repeat` repeats.
 const TIMES: usize = 3;
@@ -23,84 +26,91 @@ pub(crate) fn letter(alloc: Global, c: char) -> Result<PyText, NoMemory>
     Ok(text)
 }
 
-/// One round of a method.
-pub(crate) fn round(alloc: Global, method: Method, cells: &[PyText]) -> Result<u64, NoMemory> {
-    match method {
-        Method::Nothing => Ok(0),
-        Method::Len => Ok(lengths(cells)),
-        Method::CharAt => Ok(characters(cells)),
-        Method::Slice => slices(cells),
-        Method::Equal => Ok(equals(cells)),
-        Method::Less => Ok(orders(cells)),
-        Method::Find => Ok(first_places(cells, &letter(alloc, ',')?)),
-        Method::Rfind => Ok(last_places(cells, &letter(alloc, ',')?)),
-        Method::Count => Ok(counts(cells, &letter(alloc, ',')?)),
-        Method::Replace => replaced(cells, &letter(alloc, ',')?, &PyText::from_str(alloc, ";;")?),
-        Method::SplitOn => pieces(cells, &letter(alloc, ',')?),
-        Method::SplitBlank => words(cells),
-        Method::Strip => stripped(cells, None),
-        Method::StripOf => stripped(cells, Some(&PyText::from_str(alloc, " ,")?)),
-        Method::Lower => lowered(cells),
-        Method::Upper => raised(cells),
-        Method::IsDigit => Ok(digits(cells)),
-        Method::Concat => chained(cells),
-        Method::Repeat => repeated(cells),
-        Method::Join => joined(alloc, cells),
-        Method::Zfill => filled(cells),
+/// What the methods are given beside a cell and a comma.
+#[derive(Debug, Drop)]
+pub(crate) struct Given {
+    /// What `replace` puts in the place of a comma.
+    new: PyText,
+    /// What `strip_of` takes off.
+    ends: PyText,
+    /// What `join` joins.
+    parts: Texts,
+}
+
+impl Given {
+    pub(crate) fn new(alloc: Global) -> Result<Given, NoMemory> {
+        let comma = letter(alloc, ',')?;
+        Ok(Given {
+            new: PyText::from_str(alloc, ";;")?,
+            ends: PyText::from_str(alloc, " ,")?,
+            parts: PyText::from_str(alloc, "a,bc,,def,g")?.split_on(&comma)?,
+        })
     }
 }
 
-// The length of a text that was made, or 0.
-fn length_of(made: Result<PyText, Long>) -> Result<u64, NoMemory> {
-    match made {
-        Ok(text) => Ok(text.len() as u64),
-        Err(Long::TooLong) => Ok(0),
-        Err(Long::NoMemory) => Err(NoMemory),
-    }
-}
-
-fn lengths(cells: &[PyText]) -> u64 {
+/// The sum of a method's answers over all cells. A method of two texts is called on a cell and the one before it, and on
+/// the first cell twice.
+pub(crate) fn round(
+    method: Method,
+    cells: &[PyText],
+    comma: &PyText,
+    given: &Given,
+) -> Result<u64, NoMemory>
+    requires { comma.now ≢ [] }
+{
     let mut sum = 0u64;
+    let Some(first) = cells.first() else {
+        return Ok(sum);
+    };
+    let mut before = first;
     for cell in cells {
-        sum = sum.wrapping_add(cell.len() as u64);
-    }
-    sum
-}
-
-fn characters(cells: &[PyText]) -> u64 {
-    let mut sum = 0u64;
-    for cell in cells {
-        if let Some(c) = cell.char_at(AT) {
-            sum = sum.wrapping_add(c as u64);
-        }
-    }
-    sum
-}
-
-fn slices(cells: &[PyText]) -> Result<u64, NoMemory> {
-    let mut sum = 0u64;
-    for cell in cells {
-        let from = cell.len() / 4;
-        sum = sum.wrapping_add(cell.slice(from, from + 16)?.len() as u64);
+        sum = sum.wrapping_add(answer(method, before, cell, comma, given)?);
+        before = cell;
     }
     Ok(sum)
 }
 
-// Each cell and the one before it.
-fn equals(cells: &[PyText]) -> u64 {
-    let mut sum = 0u64;
-    for (a, b) in cells.iter().zip(cells.iter().skip(1)) {
-        sum = sum.wrapping_add(a.equal(b) as u64);
+// What is summed of one answer.
+fn answer(
+    method: Method,
+    before: &PyText,
+    cell: &PyText,
+    comma: &PyText,
+    given: &Given,
+) -> Result<u64, NoMemory>
+    requires { comma.now ≢ [] }
+{
+    match method {
+        Method::Nothing => Ok(0),
+        Method::Len => Ok(cell.len() as u64),
+        Method::CharAt => Ok(code(cell.char_at(AT))),
+        Method::Slice => part_length(cell),
+        Method::Equal => Ok(before.equal(cell) as u64),
+        Method::Less => Ok(before.less(cell) as u64),
+        Method::Find => Ok(place(cell.find(comma))),
+        Method::Rfind => Ok(place(cell.rfind(comma))),
+        Method::Count => Ok(cell.count(comma) as u64),
+        Method::Replace => length(cell.replace(comma, &given.new, usize::MAX)),
+        Method::SplitOn => Ok(cell.split_on(comma)?.len() as u64),
+        Method::SplitBlank => Ok(cell.split_blank()?.len() as u64),
+        Method::Strip => Ok(cell.strip(Side::Both, None)?.len() as u64),
+        Method::StripOf => Ok(cell.strip(Side::Both, Some(&given.ends))?.len() as u64),
+        Method::Lower => Ok(case_length(cell, cell.lower()?)),
+        Method::Upper => Ok(case_length(cell, cell.upper()?)),
+        Method::IsDigit => Ok((cell.is_digit() == Some(true)) as u64),
+        Method::Concat => length(before.concat(cell, usize::MAX)),
+        Method::Repeat => length(cell.repeat(TIMES, usize::MAX)),
+        Method::Join => length(cell.join(&given.parts, usize::MAX)),
+        Method::Zfill => length(cell.zfill(WIDTH, usize::MAX)),
     }
-    sum
 }
 
-fn orders(cells: &[PyText]) -> u64 {
-    let mut sum = 0u64;
-    for (a, b) in cells.iter().zip(cells.iter().skip(1)) {
-        sum = sum.wrapping_add(a.less(b) as u64);
+// The code point of a character, or 0.
+fn code(found: Option<char>) -> u64 {
+    match found {
+        Some(c) => c as u64,
+        None => 0,
     }
-    sum
 }
 
 // A place and one more, or 0.
@@ -111,62 +121,19 @@ fn place(found: Option<usize>) -> u64 {
     }
 }
 
-fn first_places(cells: &[PyText], part: &PyText) -> u64 {
-    let mut sum = 0u64;
-    for cell in cells {
-        sum = sum.wrapping_add(place(cell.find(part)));
-    }
-    sum
+// The length of a part that begins behind a quarter of the cell.
+fn part_length(cell: &PyText) -> Result<u64, NoMemory> {
+    let from = cell.len() / 4;
+    Ok(cell.slice(from, from + PART)?.len() as u64)
 }
 
-fn last_places(cells: &[PyText], part: &PyText) -> u64 {
-    let mut sum = 0u64;
-    for cell in cells {
-        sum = sum.wrapping_add(place(cell.rfind(part)));
+// The length of a text that was made, or 0.
+fn length(made: Result<PyText, Long>) -> Result<u64, NoMemory> {
+    match made {
+        Ok(text) => Ok(text.len() as u64),
+        Err(Long::TooLong) => Ok(0),
+        Err(Long::NoMemory) => Err(NoMemory),
     }
-    sum
-}
-
-fn counts(cells: &[PyText], part: &PyText) -> u64 {
-    let mut sum = 0u64;
-    for cell in cells {
-        sum = sum.wrapping_add(cell.count(part) as u64);
-    }
-    sum
-}
-
-fn replaced(cells: &[PyText], old: &PyText, new: &PyText) -> Result<u64, NoMemory> {
-    let mut sum = 0u64;
-    for cell in cells {
-        sum = sum.wrapping_add(length_of(cell.replace(old, new, usize::MAX))?);
-    }
-    Ok(sum)
-}
-
-fn pieces(cells: &[PyText], sep: &PyText) -> Result<u64, NoMemory>
-    requires { sep.now ≢ [] }
-{
-    let mut sum = 0u64;
-    for cell in cells {
-        sum = sum.wrapping_add(cell.split_on(sep)?.len() as u64);
-    }
-    Ok(sum)
-}
-
-fn words(cells: &[PyText]) -> Result<u64, NoMemory> {
-    let mut sum = 0u64;
-    for cell in cells {
-        sum = sum.wrapping_add(cell.split_blank()?.len() as u64);
-    }
-    Ok(sum)
-}
-
-fn stripped(cells: &[PyText], of: Option<&PyText>) -> Result<u64, NoMemory> {
-    let mut sum = 0u64;
-    for cell in cells {
-        sum = sum.wrapping_add(cell.strip(Side::Both, of)?.len() as u64);
-    }
-    Ok(sum)
 }
 
 // The length of what changing the case made, or of the cell where it made nothing.
@@ -175,62 +142,4 @@ fn case_length(cell: &PyText, made: Option<PyText>) -> u64 {
         Some(text) => text.len() as u64,
         None => cell.len() as u64,
     }
-}
-
-fn lowered(cells: &[PyText]) -> Result<u64, NoMemory> {
-    let mut sum = 0u64;
-    for cell in cells {
-        sum = sum.wrapping_add(case_length(cell, cell.lower()?));
-    }
-    Ok(sum)
-}
-
-fn raised(cells: &[PyText]) -> Result<u64, NoMemory> {
-    let mut sum = 0u64;
-    for cell in cells {
-        sum = sum.wrapping_add(case_length(cell, cell.upper()?));
-    }
-    Ok(sum)
-}
-
-fn digits(cells: &[PyText]) -> u64 {
-    let mut sum = 0u64;
-    for cell in cells {
-        sum = sum.wrapping_add((cell.is_digit() == Some(true)) as u64);
-    }
-    sum
-}
-
-fn chained(cells: &[PyText]) -> Result<u64, NoMemory> {
-    let mut sum = 0u64;
-    for (a, b) in cells.iter().zip(cells.iter().skip(1)) {
-        sum = sum.wrapping_add(length_of(a.concat(b, usize::MAX))?);
-    }
-    Ok(sum)
-}
-
-fn repeated(cells: &[PyText]) -> Result<u64, NoMemory> {
-    let mut sum = 0u64;
-    for cell in cells {
-        sum = sum.wrapping_add(length_of(cell.repeat(TIMES, usize::MAX))?);
-    }
-    Ok(sum)
-}
-
-// Each cell between the same five short texts.
-fn joined(alloc: Global, cells: &[PyText]) -> Result<u64, NoMemory> {
-    let parts = PyText::from_str(alloc, "a,bc,,def,g")?.split_on(&letter(alloc, ',')?)?;
-    let mut sum = 0u64;
-    for cell in cells {
-        sum = sum.wrapping_add(length_of(cell.join(&parts, usize::MAX))?);
-    }
-    Ok(sum)
-}
-
-fn filled(cells: &[PyText]) -> Result<u64, NoMemory> {
-    let mut sum = 0u64;
-    for cell in cells {
-        sum = sum.wrapping_add(length_of(cell.zfill(WIDTH, usize::MAX))?);
-    }
-    Ok(sum)
 }

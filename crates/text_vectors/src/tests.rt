@@ -1,7 +1,8 @@
-// Tables of calls, one test for each.
-mod case;
-mod cuts;
-mod letters;
+// Tables of calls and what CPython answers, one test for each.
+mod ends;
 mod made;
+mod parts;
+mod pieces;
+mod row;
 mod searches;
-mod vectors;
+mod truths;

@@ -1,140 +1,124 @@
-// Edges of the calls that make a text of texts. The answers are CPython's; limits are just reached, and passed by one.
-use crate::tests::case::{Case, holds};
+// The calls that make a text of texts, within a limit that is just reached, or passed by one.
+use crate::tests::row::{cell, each_row_holds, is, letter, number, own};
+use std::alloc::Global;
 use std::test::Fail;
+use tx_text::{Long, NoMemory, PyText};
 
-// Parts replaced.
-fn replace_case(at: usize) -> Option<Case> {
-    Some(match at {
-        0 => Case::Replace("", "", "x", usize::MAX, Some("x")),
-        1 => Case::Replace("", "a", "x", usize::MAX, Some("")),
-        2 => Case::Replace("a", "", "", usize::MAX, Some("a")),
-        3 => Case::Replace("aß", "", "€", usize::MAX, Some("€a€ß€")),
-        4 => Case::Replace("banana", "an", "€", usize::MAX, Some("b€€a")),
-        5 => Case::Replace("banana", "a", "", usize::MAX, Some("bnn")),
-        6 => Case::Replace("banana", "a", "aa", usize::MAX, Some("baanaanaa")),
-        7 => Case::Replace("aaa", "aa", "b", usize::MAX, Some("ba")),
-        8 => Case::Replace("aaaa", "aa", "a", usize::MAX, Some("aa")),
-        9 => Case::Replace("ab", "ab", "ba", usize::MAX, Some("ba")),
-        10 => Case::Replace("ab", "abc", "x", usize::MAX, Some("ab")),
-        11 => Case::Replace("xaxax", "x", "yy", usize::MAX, Some("yyayyayy")),
-        12 => Case::Replace(
-            "\u{1F600}a\u{1F600}",
-            "\u{1F600}",
-            "é",
-            usize::MAX,
-            Some("éaé"),
-        ),
-        13 => Case::Replace("e\u{301}e", "e", "o", usize::MAX, Some("o\u{301}o")),
-        14 => Case::Replace("a|b", "|", "", usize::MAX, Some("ab")),
-        15 => Case::Replace("banana", "a", "xy", 9, Some("bxynxynxy")),
-        16 => Case::Replace("banana", "a", "xy", 8, None),
-        17 => Case::Replace("banana", "an", "", 2, Some("ba")),
-        18 => Case::Replace("banana", "an", "", 1, None),
-        19 => Case::Replace("ab", "", "-", 5, Some("-a-b-")),
-        20 => Case::Replace("ab", "", "-", 4, None),
-        21 => Case::Replace("", "", "xy", 2, Some("xy")),
-        22 => Case::Replace("", "", "xy", 1, None),
-        23 => Case::Replace("ab", "c", "x", 2, Some("ab")),
-        24 => Case::Replace("ab", "c", "x", 1, None),
-        _ => return None,
-    })
+/// A method, a text, what goes into it (a text; how often; parts with `|` between them; a width; a part, `>` and what
+/// stands in its place), the new text, `~` where it is past the limit, and the limit, where there is one.
+const ROWS: &str = "\
+concat;;;
+concat;a;;a
+concat;;é;é
+concat;€;€;€€;2
+concat;€;€;~;1
+concat;ab;;~;1
+concat;;;;0
+repeat;ab;3;ababab
+repeat;ab;0;;0
+repeat;€;3;€€€;3
+repeat;€;3;~;2
+repeat;;5;;0
+repeat;;18446744073709551615;;0
+repeat;a;18446744073709551615;~;100
+repeat;ab;1;~;1
+join;,;a|b;a,b
+join;;a|b;ab
+join;,;a;a
+join;--;a||b;a----b;6
+join;--;a||b;~;5
+join;,;;;0
+join;€;é|\u{1F600}|e\u{301};é€\u{1F600}€e\u{301}
+join;ab;||;abab;4
+join;ab;||;~;3
+join;x;abc;~;2
+zfill;-7;4;-007
+zfill;+7;4;+007
+zfill;-;3;-00
+zfill;+;1;+
+zfill;--1;5;-00-1
+zfill;7;3;007
+zfill;-7;2;-7
+zfill;-7;1;-7
+zfill;-7;0;-7
+zfill;;3;000
+zfill;;0;
+zfill;-é;4;-00é
+zfill;é-;4;00é-
+zfill;€\u{1F600};5;000€\u{1F600}
+zfill;1+;4;001+
+zfill; -1;5;00 -1
+zfill;7;3;007;3
+zfill;7;3;~;2
+zfill;-77;2;-77;3
+zfill;-77;2;~;2
+zfill;;0;;0
+replace;ab;>-;-a-b-
+replace;;>x;x
+replace;;a>x;
+replace;a;>;a
+replace;aß;>€;€a€ß€
+replace;banana;an>€;b€€a
+replace;banana;a>;bnn
+replace;banana;a>aa;baanaanaa
+replace;aaa;aa>b;ba
+replace;aaaa;aa>a;aa
+replace;ab;ab>ba;ba
+replace;ab;abc>x;ab
+replace;xaxax;x>yy;yyayyayy
+replace;\u{1F600}a\u{1F600};\u{1F600}>é;éaé
+replace;e\u{301}e;e>o;o\u{301}o
+replace;a|b;|>;ab
+replace;banana;a>xy;bxynxynxy;9
+replace;banana;a>xy;~;8
+replace;banana;an>;ba;2
+replace;banana;an>;~;1
+replace;ab;>-;-a-b-;5
+replace;ab;>-;~;4
+replace;;>xy;xy;2
+replace;;>xy;~;1
+replace;ab;c>x;ab;2
+replace;ab;c>x;~;1
+";
+
+// The parts of a cell joined by a text.
+fn joined(alloc: Global, sep: &PyText, parts: &str, most: usize) -> Result<PyText, Long> {
+    let parts = own(alloc, parts)?.split_on(&letter(alloc, '|')?)?;
+    sep.join(&parts, most)
+}
+
+// A text with a part replaced.
+fn replaced(alloc: Global, text: &PyText, pair: &str, most: usize) -> Result<PyText, Long> {
+    let (old, new) = pair.split_once('>').unwrap_or((pair, ""));
+    text.replace(&own(alloc, old)?, &own(alloc, new)?, most)
+}
+
+// What the method of a row makes of its text.
+fn made(alloc: Global, text: &PyText, row: &str) -> Result<PyText, Long> {
+    let other = cell(row, 2);
+    let times = number(other).unwrap_or(0);
+    let most = number(cell(row, 4)).unwrap_or(usize::MAX);
+    match cell(row, 0) {
+        "concat" => text.concat(&own(alloc, other)?, most),
+        "repeat" => text.repeat(times, most),
+        "join" => joined(alloc, text, other, most),
+        "zfill" => text.zfill(times, most),
+        _ => replaced(alloc, text, other, most),
+    }
+}
+
+/// Whether the method of a row makes its text.
+pub(crate) fn made_holds(alloc: Global, row: &str) -> Result<bool, NoMemory> {
+    let text = own(alloc, cell(row, 1))?;
+    match made(alloc, &text, row) {
+        Ok(text) => is(alloc, &text, cell(row, 3)),
+        Err(Long::TooLong) => Ok(cell(row, 3) == "~"),
+        Err(Long::NoMemory) => Err(NoMemory),
+    }
 }
 
 #[test]
-fn replaced_texts_hold(rt: HostRuntime) -> Result<(), Fail> {
-    let alloc = rt.alloc();
-    for at in 0..usize::MAX {
-        let Some(case) = replace_case(at) else {
-            break;
-        };
-        assert!(rt; holds(alloc, case)?, "at {at}");
-    }
-    Ok(())
-}
-
-// Texts behind each other.
-fn chain_case(at: usize) -> Option<Case> {
-    Some(match at {
-        0 => Case::Concat("", "", usize::MAX, Some("")),
-        1 => Case::Concat("a", "", usize::MAX, Some("a")),
-        2 => Case::Concat("", "é", usize::MAX, Some("é")),
-        3 => Case::Concat("€", "€", 2, Some("€€")),
-        4 => Case::Concat("€", "€", 1, None),
-        5 => Case::Concat("ab", "", 1, None),
-        6 => Case::Concat("", "", 0, Some("")),
-        7 => Case::Repeat("ab", 3, usize::MAX, Some("ababab")),
-        8 => Case::Repeat("ab", 0, 0, Some("")),
-        9 => Case::Repeat("€", 3, 3, Some("€€€")),
-        10 => Case::Repeat("€", 3, 2, None),
-        11 => Case::Repeat("", 5, 0, Some("")),
-        12 => Case::Repeat("", usize::MAX, 0, Some("")),
-        13 => Case::Repeat("a", usize::MAX, 100, None),
-        14 => Case::Repeat("ab", 1, 1, None),
-        15 => Case::Join("", "a|b", usize::MAX, Some("ab")),
-        16 => Case::Join(",", "a", usize::MAX, Some("a")),
-        17 => Case::Join("--", "a||b", 6, Some("a----b")),
-        18 => Case::Join("--", "a||b", 5, None),
-        19 => Case::Join(",", "", 0, Some("")),
-        20 => Case::Join(
-            "€",
-            "é|\u{1F600}|e\u{301}",
-            usize::MAX,
-            Some("é€\u{1F600}€e\u{301}"),
-        ),
-        21 => Case::Join("ab", "||", 4, Some("abab")),
-        22 => Case::Join("ab", "||", 3, None),
-        23 => Case::Join("x", "abc", 2, None),
-        _ => return None,
-    })
-}
-
-#[test]
-fn chained_texts_hold(rt: HostRuntime) -> Result<(), Fail> {
-    let alloc = rt.alloc();
-    for at in 0..usize::MAX {
-        let Some(case) = chain_case(at) else {
-            break;
-        };
-        assert!(rt; holds(alloc, case)?, "at {at}");
-    }
-    Ok(())
-}
-
-// Zeros in front.
-fn zero_case(at: usize) -> Option<Case> {
-    Some(match at {
-        0 => Case::Zfill("+7", 4, usize::MAX, Some("+007")),
-        1 => Case::Zfill("-", 3, usize::MAX, Some("-00")),
-        2 => Case::Zfill("+", 1, usize::MAX, Some("+")),
-        3 => Case::Zfill("--1", 5, usize::MAX, Some("-00-1")),
-        4 => Case::Zfill("7", 3, usize::MAX, Some("007")),
-        5 => Case::Zfill("-7", 2, usize::MAX, Some("-7")),
-        6 => Case::Zfill("-7", 1, usize::MAX, Some("-7")),
-        7 => Case::Zfill("-7", 0, usize::MAX, Some("-7")),
-        8 => Case::Zfill("", 3, usize::MAX, Some("000")),
-        9 => Case::Zfill("", 0, usize::MAX, Some("")),
-        10 => Case::Zfill("-é", 4, usize::MAX, Some("-00é")),
-        11 => Case::Zfill("é-", 4, usize::MAX, Some("00é-")),
-        12 => Case::Zfill("€\u{1F600}", 5, usize::MAX, Some("000€\u{1F600}")),
-        13 => Case::Zfill("1+", 4, usize::MAX, Some("001+")),
-        14 => Case::Zfill(" -1", 5, usize::MAX, Some("00 -1")),
-        15 => Case::Zfill("7", 3, 3, Some("007")),
-        16 => Case::Zfill("7", 3, 2, None),
-        17 => Case::Zfill("-77", 2, 3, Some("-77")),
-        18 => Case::Zfill("-77", 2, 2, None),
-        19 => Case::Zfill("", 0, 0, Some("")),
-        _ => return None,
-    })
-}
-
-#[test]
-fn filled_texts_hold(rt: HostRuntime) -> Result<(), Fail> {
-    let alloc = rt.alloc();
-    for at in 0..usize::MAX {
-        let Some(case) = zero_case(at) else {
-            break;
-        };
-        assert!(rt; holds(alloc, case)?, "at {at}");
-    }
+fn made_texts_hold(rt: HostRuntime) -> Result<(), Fail> {
+    each_row_holds(&rt, rt.alloc(), ROWS, 72)?;
     Ok(())
 }
