@@ -1,0 +1,16 @@
+pub mod Slices
+pub mod LineLemmas
+pub mod WordLemmas
+pub mod IntegerLemmas
+pub mod LiteralLemmas
+pub mod MarkLemmas
+pub mod CutLemmas
+pub mod PieceLemmas
+pub mod EventLemmas
+pub mod ColumnLemmas
+pub mod OrderLemmas
+pub mod StackLemmas
+pub mod BalanceLemmas
+pub mod JoinLemmas
+pub mod SpellingLemmas
+pub mod GapLemmas

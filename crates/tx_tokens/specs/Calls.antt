@@ -1,0 +1,3 @@
+-- What only the contracts of calls inside the crate speak of.
+pub mod Walking
+pub mod Reading
