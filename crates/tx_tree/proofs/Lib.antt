@@ -1,0 +1,5 @@
+pub mod Ascii
+pub mod Lengths
+pub mod Names
+pub mod Sizes
+pub mod Tails

@@ -1,0 +1,9 @@
+pub mod Words
+pub mod Tree
+pub mod Kind
+pub mod Spell
+pub mod Form
+pub mod Depth
+pub mod Bare
+pub mod Laws
+pub mod Calls

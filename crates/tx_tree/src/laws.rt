@@ -1,0 +1,7 @@
+// Laws of the definitions, each the contract of a function that does nothing.
+ghost use Rattle.tx_tree.specs.Laws.{SpellingLaw};
+
+/// The spelling of an example of each node, beside the production of the Python Language Reference that it comes from.
+pub fn spelling_is_the_grammar()
+    ensures { SpellingLaw }
+{}
