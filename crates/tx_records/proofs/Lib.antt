@@ -1,0 +1,5 @@
+pub mod CellLemmas
+pub mod FieldsLemmas
+pub mod PackedLemmas
+pub mod ReadingLemmas
+pub mod SourceLemmas
