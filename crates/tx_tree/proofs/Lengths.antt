@@ -1,18 +1,18 @@
 -- A spelling has as many tokens as are counted along the tree.
-use Rattle.std.proofs.Common.{◌≡◌, ◌+◌, ℕ, suc, Bool, true, false, List, [], ◌∷◌, Option, Some, None, length, map, refl, sym, ap, ◌∙◌, arith}
+use Rattle.std.proofs.Common.{◌≡◌, ◌+◌, ℕ, suc, Bool, true, false, List, [], ◌∷◌, Option, Some, None, length, refl, ap, ◌∙◌, arith}
 use Rattle.tx_tree.specs.declared.operator.CompareOp.{CompareOp}
 use Rattle.tx_tree.specs.declared.operator.CompareOp.TheVariants as op
 use Rattle.tx_tree.specs.declared.symbol.Keyword.{Keyword}
-use Rattle.tx_tree.specs.declared.symbol.Keyword.TheVariants.{And, Def, Elif, Else, For, If, In, Lambda, Or, Return}
-use Rattle.tx_tree.specs.declared.symbol.Mark.TheVariants.{Open, Close, OpenSquare, CloseSquare, OpenBrace, CloseBrace, Comma, Colon, Dot, Assign}
+use Rattle.tx_tree.specs.declared.symbol.Keyword.TheVariants.{And, Else, For, If, In, Or}
+use Rattle.tx_tree.specs.declared.symbol.Mark.TheVariants.{Open, Close, OpenSquare, CloseSquare, CloseBrace, Colon, Dot, Assign}
 use Rattle.tx_tree.specs.declared.target.Word.{Word}
 use Rattle.tx_tree.specs.declared.target.Target.{Target}
 use Rattle.tx_tree.specs.declared.target.Target.TheVariants as target
-use Rattle.tx_tree.specs.Words.{binary_mark, augment_mark, unary_mark}
-use Rattle.tx_tree.specs.Kind.{Kind, named, keyword, number, quoted, mark, newline, indent, dedent}
-use Rattle.tx_tree.specs.Spell.{spell_comma, spell_more_names, spell_names, texts_of, spell_target, spell_op, spell, spell_items, spell_more_items, spell_pairs, spell_more_pairs, spell_behind, spell_operands, spell_maybe, spell_condition, spell_statement, spell_body, spell_statements, spell_tail, spell_arg, spell_more_args, spell_arg_list, spell_args, spell_head_args, spell_head, spell_link, spell_links, spell_chain_in, spell_chain, spell_block, spelling}
-use Rattle.tx_tree.specs.Calls.Count.{count_comma, count_between, count_commas, count_names, count_target, count_op, size, pairs_size, count, count_each, count_pairs, count_operands, count_maybe, count_condition, count_statement, count_body, count_statements, count_tail, count_arg, sum_of_args, count_args, count_head_args, count_head, count_links, count_brackets, count_chain, count_block}
-use Rattle.tx_tree.specs.Tree.{Tree, nil, truth, int, text, name, paren, tuple, bare_tuple, list, dict, comprehension, call, method, index, slice, unary, binary, compare, negation, conjunction, disjunction, conditional, Trees, none, more, PairTrees, no_pair, pair, Operands, no_operand, operand, MaybeTree, absent, present, Statement, pass, break, continue, return, assign, augment, express, branch, repeat, Body, line, indented, Statements, finish, next, Tail, nothing, otherwise, elif, ArgTree, lambda, plain, ArgTrees, HeadTree, LinkTree, ChainTree, BlockTree, define, pipeline, alone}
+use Rattle.tx_tree.specs.Words.{binary_mark}
+use Rattle.tx_tree.specs.Kind.{Kind, named, keyword, mark, newline, dedent}
+use Rattle.tx_tree.specs.Spell.{spell_comma, spell_more_names, spell_names, texts_of, spell_target, spell_op, spell, spell_items, spell_more_items, spell_pairs, spell_more_pairs, spell_behind, spell_operands, spell_maybe, spell_condition, spell_statement, spell_body, spell_statements, spell_tail, spell_arg, spell_more_args, spell_arg_list, spell_args, spell_head_args, spell_links, spell_chain_in, spelling}
+use Rattle.tx_tree.specs.Calls.Count.{count_comma, count_commas, count_names, count_target, count_op, size, pairs_size, count, count_each, count_pairs, count_operands, count_maybe, count_condition, count_statement, count_body, count_statements, count_tail, count_arg, sum_of_args, count_args, count_head_args, count_head, count_links, count_brackets, count_block}
+use Rattle.tx_tree.specs.Tree.{Tree, nil, truth, int, text, name, paren, tuple, bare_tuple, list, dict, comprehension, call, method, index, slice, unary, binary, compare, negation, conjunction, disjunction, conditional, Trees, none, more, PairTrees, no_pair, pair, Operands, no_operand, operand, MaybeTree, absent, present, Statement, pass, break, continue, return, assign, augment, express, branch, repeat, Body, line, indented, Statements, finish, next, Tail, nothing, otherwise, elif, ArgTree, lambda, plain, ArgTrees, HeadTree, LinkTree, BlockTree, define, pipeline, alone}
 
 length_comma : (comma : Bool) (ks : List Kind) → length (spell_comma comma ks) ≡ count_comma comma + length ks
 length_comma true ks = omega arith

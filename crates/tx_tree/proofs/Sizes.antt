@@ -1,5 +1,5 @@
 -- How many items a list has, in the code and in its tree.
-use Rattle.std.proofs.Common.{◌≡◌, ◌+◌, ℕ, suc, Bool, true, false, not, ◌||◌, List, [], ◌∷◌, length, map, refl, ap}
+use Rattle.std.proofs.Common.{◌≡◌, suc, List, [], ◌∷◌, length, map, refl, ap}
 use Rattle.tx_tree.specs.declared.expr.Expr.{Expr}
 use Rattle.tx_tree.specs.declared.expr.Pair.{Pair}
 use Rattle.tx_tree.specs.declared.expr.Operand.{Operand}

@@ -1,16 +1,16 @@
 -- What is said of the arms behind `elif` and of what stands behind them, each alone.
-use Rattle.std.proofs.Common.{◌≡◌, ◌+◌, max, ℕ, Bool, true, false, ◌&&◌, List, [], ◌∷◌, map, refl, sym, ap, ◌∙◌, add_assoc, arith}
+use Rattle.std.proofs.Common.{◌≡◌, ◌+◌, max, ℕ, Bool, true, false, ◌&&◌, List, [], ◌∷◌, map, refl, sym, ap, ◌∙◌, arith}
 use Rattle.tx_tree.specs.declared.expr.Expr.{Expr}
-use Rattle.tx_tree.specs.declared.stmt.Stmt.{Stmt, If, fold-roll-Stmt}
+use Rattle.tx_tree.specs.declared.stmt.Stmt.{If, fold-roll-Stmt}
 use Rattle.tx_tree.specs.declared.stmt.Stmt.TheVariants.{rolls-If}
 use Rattle.tx_tree.specs.declared.stmt.Suite.{Suite}
 use Rattle.tx_tree.specs.declared.stmt.Arm.{Arm}
 use Rattle.tx_tree.specs.declared.stmt.Otherwise.{Otherwise}
 use Rattle.tx_tree.specs.declared.stmt.Otherwise.TheOpen as s
-use Rattle.tx_tree.specs.Tree.{Tree, Statement, branch, Body, Tail, nothing, otherwise, elif, tail, tree_of, statement_of, body_of, arm_of, otherwise_of, otherwise_step, statement_step, body_step, arm_step}
-use Rattle.tx_tree.specs.Depth.{depth, depth_body, depth_tail}
+use Rattle.tx_tree.specs.Tree.{Tree, Statement, branch, Body, Tail, nothing, tail, tree_of, statement_of, body_of, arm_of, otherwise_of, otherwise_step, statement_step, body_step, arm_step}
+use Rattle.tx_tree.specs.Depth.{depth_tail}
 use Rattle.tx_tree.specs.Form.{fits, at_test, derived_body, derived_tail, fine, fine_body, fine_tail}
-use Rattle.tx_tree.specs.Calls.Count.{count, count_body, count_tail}
+use Rattle.tx_tree.specs.Calls.Count.{count_tail}
 
 and_assoc : (a b c d : Bool) → c ≡ d → (a && (b && c)) ≡ (a && (b && d))
 and_assoc a b c d e = ap (λ x. a && (b && x)) e

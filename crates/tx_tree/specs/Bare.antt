@@ -1,5 +1,5 @@
 -- Trees without their lines: `bare` has each line 0. Two trees are equal but for their lines where these are the same.
-use Rattle.std.specs.Prelude.{◌≡◌, ℕ, List, [], ◌∷◌, map, option_map}
+use Rattle.std.specs.Prelude.{◌≡◌, map, option_map}
 use Rattle.tx_tree.specs.declared.target.Word.{Word}
 use Rattle.tx_tree.specs.declared.target.Target.{Target}
 use Rattle.tx_tree.specs.declared.target.Target.TheVariants as target

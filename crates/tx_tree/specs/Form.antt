@@ -1,6 +1,6 @@
 -- Which trees are well formed. At each node some conditions are asked, whatever its parts; a tree is well formed where they
 -- hold at every node.
-use Rattle.std.specs.Prelude.{ℕ, ℤ, suc, ◌^◌, Bool, true, false, not, ◌&&◌, ◌||◌, nat_le, int_lt, int_le, pos, List, [], ◌∷◌, Option, Some, None, map}
+use Rattle.std.specs.Prelude.{ℕ, suc, ◌^◌, Bool, true, false, not, ◌&&◌, ◌||◌, nat_le, int_lt, int_le, pos, List, [], ◌∷◌, Option, Some, None}
 use Rattle.std.specs.List.{list_all, list_any}
 use Rattle.tx_tree.specs.declared.operator.BinaryOp.{BinaryOp}
 use Rattle.tx_tree.specs.declared.operator.BinaryOp.TheVariants as binary_op

@@ -1,5 +1,5 @@
 -- What holds of the definitions alone: an example of the spelling of each node, beside the production of the Python Language
--- Reference that it comes from (the number is that of the section).
+-- Reference that it comes from (the number is that of the section); and that lines say nothing of a tree but where it stands.
 use Rattle.std.specs.Prelude.{◌≡◌, ◌++◌, ℕ, pos, Bool, true, false, List, [], ◌∷◌, Some, None, codes}
 use Rattle.tx_tree.specs.declared.operator.BinaryOp.TheVariants.{Add, Sub, Mul, FloorDiv, Mod}
 use Rattle.tx_tree.specs.declared.operator.UnaryOp.TheVariants as unary_op
@@ -8,8 +8,11 @@ use Rattle.tx_tree.specs.declared.target.Word.{Word}
 use Rattle.tx_tree.specs.declared.target.Target.TheVariants as target
 use Rattle.tx_tree.specs.Words.{keyword_word, mark_word}
 use Rattle.tx_tree.specs.Kind.{Kind, named, keyword, number, quoted, mark, newline, indent, dedent}
-use Rattle.tx_tree.specs.Tree.{Tree, nil, truth, int, text, name, paren, tuple, bare_tuple, list, dict, comprehension, call, method, index, slice, unary, binary, compare, negation, conjunction, disjunction, conditional, Trees, none, more, PairTrees, no_pair, pair, Operands, no_operand, operand, MaybeTree, absent, present, Statement, pass, break, continue, return, assign, augment, express, branch, repeat, Body, line, indented, Statements, finish, next, Tail, nothing, otherwise, elif, ArgTree, lambda, plain, ArgTrees, HeadTree, LinkTree, ChainTree, BlockTree, define, pipeline, alone}
+use Rattle.tx_tree.specs.Tree.{Tree, nil, truth, int, text, name, paren, tuple, bare_tuple, list, dict, comprehension, call, method, index, slice, unary, binary, compare, negation, conjunction, disjunction, conditional, Trees, none, more, no_pair, pair, no_operand, operand, absent, present, Statement, pass, break, continue, return, assign, augment, express, branch, repeat, Body, line, indented, finish, next, nothing, otherwise, elif, lambda, plain, ArgTrees, ChainTree, BlockTree, define, pipeline, alone}
 use Rattle.tx_tree.specs.Spell.{spell, spell_statement, spelling}
+use Rattle.tx_tree.specs.Form.{well_formed}
+use Rattle.tx_tree.specs.Depth.{depth_block}
+use Rattle.tx_tree.specs.Bare.{bare_block}
 
 -- a token as it is written; an integer, a text and the layout by the names that the grammar has for them
 abbrev pub written : Kind → List ℕ
@@ -180,3 +183,11 @@ pub record SpellingLaw : Type 0 where
   pub expressions : ExpressionExamples
   pub statements : StatementExamples
   pub blocks : BlockExamples
+
+-- ---- lines
+
+-- the spelling, the depth and well-formedness of a tree are those of the tree without its lines
+pub record LinesLaw : Type 0 where
+  pub same_spelling : (t : BlockTree) → spelling (bare_block t) ≡ spelling t
+  pub same_depth : (t : BlockTree) → depth_block (bare_block t) ≡ depth_block t
+  pub same_form : (t : BlockTree) → well_formed (bare_block t) ≡ well_formed t

@@ -1,4 +1,5 @@
 pub mod Words
+pub mod Takes
 pub mod Tree
 pub mod Kind
 pub mod Spell

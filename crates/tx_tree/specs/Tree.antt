@@ -1,7 +1,7 @@
 -- The trees of the grammar, on which all that is said of trees goes by recursion, and the tree of each node of the code.
 -- The number first in a node is the line of its first token; the truth value behind a list says whether a comma stands
 -- behind the last item.
-use Rattle.std.specs.Prelude.{ℕ, ℤ, Bool, List, [], ◌∷◌, Option, Some, None, map, option_map}
+use Rattle.std.specs.Prelude.{ℕ, ℤ, Bool, List, [], ◌∷◌, Option, map, option_map}
 use Rattle.tx_tree.specs.declared.operator.BinaryOp.{BinaryOp}
 use Rattle.tx_tree.specs.declared.operator.UnaryOp.{UnaryOp}
 use Rattle.tx_tree.specs.declared.operator.CompareOp.{CompareOp}

@@ -1,7 +1,8 @@
 // How many tokens the spelling of a tree has.
-ghost use Rattle.std.specs.Prelude.{◌≡◌, ◌+◌, ◌-◌, ◌^◌, min, map, length};
+ghost use Rattle.std.specs.Prelude.{◌≡◌, ◌+◌, ◌-◌, ◌^◌, min, map, length, IsTrue};
 ghost use Rattle.tx_tree.specs.Tree.{tree_of, trees, pair_of, pair_trees, operand_of, operands, maybe_of, statement_of, statements, body_of, arm_of, tail, otherwise_of, arg_of, args_of, link_of, chain_of, block_of, nothing};
 ghost use Rattle.tx_tree.specs.Spell.{spelling};
+ghost use Rattle.tx_tree.specs.Calls.Operation.{is_operation};
 ghost use Rattle.tx_tree.specs.Calls.Count.{count, count_each, size, count_pairs, pairs_size, count_operands, count_maybe, count_condition, count_statement, count_statements, count_body, count_tail, count_commas, count_target, count_op, sum_of_args, count_args, count_links, count_chain, count_block};
 
 use crate::{
@@ -195,14 +196,16 @@ fn count_of_expr(e: &Expr) -> usize
     ensures { result ≡ min (count (tree_of e.now)) (2 ^ 64 - 1) }
 {
     match e {
+        Expr::Nil { .. } => 1,
+        Expr::Truth { .. } => 1,
+        Expr::Int { .. } => 1,
+        Expr::Text { .. } => 1,
+        Expr::Name { .. } => 1,
         Expr::Paren { inner, .. } => count_of_expr(inner.get()).saturating_add(2),
-        Expr::Tuple { items, comma, .. } => {
+        Expr::Tuple { items, comma, .. } | Expr::List { items, comma, .. } => {
             count_of_items(items.as_slice(), *comma).saturating_add(2)
         }
         Expr::BareTuple { items, comma, .. } => count_of_items(items.as_slice(), *comma),
-        Expr::List { items, comma, .. } => {
-            count_of_items(items.as_slice(), *comma).saturating_add(2)
-        }
         Expr::Dict { pairs, comma, .. } => {
             count_of_dict(pairs.as_slice(), *comma).saturating_add(2)
         }
@@ -235,18 +238,27 @@ fn count_of_expr(e: &Expr) -> usize
             .saturating_add(count_of_maybe(from))
             .saturating_add(count_of_maybe(to))
             .saturating_add(3),
-        Expr::Unary { operand, .. } => count_of_expr(operand.get()).saturating_add(1),
+        _ => count_of_operation(e),
+    }
+}
+
+// Of an expression with an operator.
+#[cycle(expression)]
+fn count_of_operation(e: &Expr) -> usize
+    requires { IsTrue (is_operation (tree_of e.now)) }
+    ensures { result ≡ min (count (tree_of e.now)) (2 ^ 64 - 1) }
+{
+    match e {
+        Expr::Unary { operand, .. } | Expr::Not { operand, .. } => {
+            count_of_expr(operand.get()).saturating_add(1)
+        }
         Expr::Binary { left, right, .. } => count_of_expr(left.get())
             .saturating_add(count_of_expr(right.get()))
             .saturating_add(1),
         Expr::Compare { first, others, .. } => {
             count_of_expr(first.get()).saturating_add(count_of_operands(others.as_slice()))
         }
-        Expr::Not { operand, .. } => count_of_expr(operand.get()).saturating_add(1),
-        Expr::And { first, others, .. } => {
-            count_of_expr(first.get()).saturating_add(count_of_others(others.as_slice()))
-        }
-        Expr::Or { first, others, .. } => {
+        Expr::And { first, others, .. } | Expr::Or { first, others, .. } => {
             count_of_expr(first.get()).saturating_add(count_of_others(others.as_slice()))
         }
         Expr::Conditional {

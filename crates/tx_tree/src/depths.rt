@@ -1,6 +1,7 @@
 // How deep a tree is.
-ghost use Rattle.std.specs.Prelude.{◌≡◌, ◌-◌, ◌^◌, min, map};
+ghost use Rattle.std.specs.Prelude.{◌≡◌, ◌-◌, ◌^◌, min, map, IsTrue};
 ghost use Rattle.tx_tree.specs.Tree.{tree_of, trees, pair_of, pair_trees, operand_of, operands, maybe_of, statement_of, statements, body_of, arm_of, tail, otherwise_of, arg_of, args_of, link_of, chain_of, block_of, nothing};
+ghost use Rattle.tx_tree.specs.Calls.Operation.{is_operation};
 ghost use Rattle.tx_tree.specs.Depth.{depth, depth_each, depth_pairs, depth_operands, depth_maybe, depth_statement, depth_statements, depth_body, depth_tail, depth_args, depth_links, depth_chain, depth_block};
 
 use crate::{Arg, Arm, Block, Chain, Expr, Link, Maybe, Operand, Otherwise, Pair, Stmt, Suite};
@@ -131,17 +132,17 @@ fn depth_of_otherwise(otherwise: &Otherwise) -> u32
 fn depth_of_expr(e: &Expr) -> u32
     ensures { result ≡ min (depth (tree_of e.now)) (2 ^ 32 - 1) }
 {
-    let parts = match e {
-        Expr::Nil { .. } => 0,
-        Expr::Truth { .. } => 0,
-        Expr::Int { .. } => 0,
-        Expr::Text { .. } => 0,
-        Expr::Name { .. } => 0,
-        Expr::Paren { inner, .. } => depth_of_expr(inner.get()),
-        Expr::Tuple { items, .. } => depth_of_exprs(items.as_slice()),
-        Expr::BareTuple { items, .. } => depth_of_exprs(items.as_slice()),
-        Expr::List { items, .. } => depth_of_exprs(items.as_slice()),
-        Expr::Dict { pairs, .. } => depth_of_pairs(pairs.as_slice()),
+    match e {
+        Expr::Nil { .. } => 1,
+        Expr::Truth { .. } => 1,
+        Expr::Int { .. } => 1,
+        Expr::Text { .. } => 1,
+        Expr::Name { .. } => 1,
+        Expr::Paren { inner, .. } => depth_of_expr(inner.get()).saturating_add(1),
+        Expr::Tuple { items, .. } => depth_of_exprs(items.as_slice()).saturating_add(1),
+        Expr::BareTuple { items, .. } => depth_of_exprs(items.as_slice()).saturating_add(1),
+        Expr::List { items, .. } => depth_of_exprs(items.as_slice()).saturating_add(1),
+        Expr::Dict { pairs, .. } => depth_of_pairs(pairs.as_slice()).saturating_add(1),
         Expr::Comprehension {
             element,
             iterable,
@@ -149,28 +150,43 @@ fn depth_of_expr(e: &Expr) -> u32
             ..
         } => depth_of_expr(element.get())
             .max(depth_of_expr(iterable.get()))
-            .max(depth_of_maybe(condition)),
-        Expr::Call { args, .. } => depth_of_exprs(args.as_slice()),
-        Expr::Method { receiver, args, .. } => {
-            depth_of_expr(receiver.get()).max(depth_of_exprs(args.as_slice()))
-        }
-        Expr::Index { base, at, .. } => depth_of_expr(base.get()).max(depth_of_expr(at.get())),
+            .max(depth_of_maybe(condition))
+            .saturating_add(1),
+        Expr::Call { args, .. } => depth_of_exprs(args.as_slice()).saturating_add(1),
+        Expr::Method { receiver, args, .. } => depth_of_expr(receiver.get())
+            .max(depth_of_exprs(args.as_slice()))
+            .saturating_add(1),
+        Expr::Index { base, at, .. } => depth_of_expr(base.get())
+            .max(depth_of_expr(at.get()))
+            .saturating_add(1),
         Expr::Slice { base, from, to, .. } => depth_of_expr(base.get())
             .max(depth_of_maybe(from))
-            .max(depth_of_maybe(to)),
-        Expr::Unary { operand, .. } => depth_of_expr(operand.get()),
-        Expr::Binary { left, right, .. } => {
-            depth_of_expr(left.get()).max(depth_of_expr(right.get()))
+            .max(depth_of_maybe(to))
+            .saturating_add(1),
+        _ => depth_of_operation(e),
+    }
+}
+
+// Of an expression with an operator.
+#[cycle(expression)]
+fn depth_of_operation(e: &Expr) -> u32
+    requires { IsTrue (is_operation (tree_of e.now)) }
+    ensures { result ≡ min (depth (tree_of e.now)) (2 ^ 32 - 1) }
+{
+    match e {
+        Expr::Unary { operand, .. } | Expr::Not { operand, .. } => {
+            depth_of_expr(operand.get()).saturating_add(1)
         }
-        Expr::Compare { first, others, .. } => {
-            depth_of_expr(first.get()).max(depth_of_operands(others.as_slice()))
-        }
-        Expr::Not { operand, .. } => depth_of_expr(operand.get()),
-        Expr::And { first, others, .. } => {
-            depth_of_expr(first.get()).max(depth_of_exprs(others.as_slice()))
-        }
-        Expr::Or { first, others, .. } => {
-            depth_of_expr(first.get()).max(depth_of_exprs(others.as_slice()))
+        Expr::Binary { left, right, .. } => depth_of_expr(left.get())
+            .max(depth_of_expr(right.get()))
+            .saturating_add(1),
+        Expr::Compare { first, others, .. } => depth_of_expr(first.get())
+            .max(depth_of_operands(others.as_slice()))
+            .saturating_add(1),
+        Expr::And { first, others, .. } | Expr::Or { first, others, .. } => {
+            depth_of_expr(first.get())
+                .max(depth_of_exprs(others.as_slice()))
+                .saturating_add(1)
         }
         Expr::Conditional {
             then,
@@ -179,9 +195,10 @@ fn depth_of_expr(e: &Expr) -> u32
             ..
         } => depth_of_expr(then.get())
             .max(depth_of_expr(test.get()))
-            .max(depth_of_expr(other.get())),
-    };
-    parts.saturating_add(1)
+            .max(depth_of_expr(other.get()))
+            .saturating_add(1),
+        _ => 1,
+    }
 }
 
 #[cycle(expression)]

@@ -1,9 +1,10 @@
 // Which trees are well formed.
-ghost use Rattle.std.specs.Prelude.{◌≡◌, ◌&&◌, map};
+ghost use Rattle.std.specs.Prelude.{◌≡◌, ◌&&◌, map, IsTrue};
 ghost use Rattle.std.specs.List.{list_all, list_any};
 ghost use Rattle.tx_tree.specs.Words.{same_text};
 ghost use Rattle.tx_tree.specs.Tree.{tree_of, trees, pair_of, pair_trees, operand_of, operands, maybe_of, statement_of, statements, body_of, arm_of, tail, otherwise_of, arg_of, args_of, link_of, head_of, chain_of, block_of, nothing};
 ghost use Rattle.tx_tree.specs.Spell.{texts_of};
+ghost use Rattle.tx_tree.specs.Calls.Operation.{is_operation};
 ghost use Rattle.tx_tree.specs.Form.{level, level_of_op, fits, fits_each, fits_pairs, fits_operands, fits_maybe, at_test, amount, amount_of_trees, amount_of_pairs, amount_of_operands, has_items, may_end, makes_tuple, derived, derived_target, is_listed, is_name, are_names, target_is_named, identities_with_none, compares_with_none, is_identity, is_nil, is_literal, has_names, sound, fine, fine_each, fine_pairs, fine_operands, fine_maybe, is_simple, derived_body, derived_tail, derived_statement, statement_has_names, is_in_loop, sound_statement, fine_statement, fine_statements, fine_body, fine_tail, distinct, are_params, fine_arg, fine_args, fine_head, fine_link, fine_chain, well_formed};
 
 use crate::{
@@ -317,6 +318,11 @@ fn is_derived(e: &Expr) -> bool
     ensures { result ≡ derived (tree_of e.now) }
 {
     match e {
+        Expr::Nil { .. } => true,
+        Expr::Truth { .. } => true,
+        Expr::Int { .. } => true,
+        Expr::Text { .. } => true,
+        Expr::Name { .. } => true,
         Expr::Paren { inner, .. } => fits(AT_TEST, inner.get()),
         Expr::Tuple { items, comma, .. } => is_tuple(items.as_slice(), *comma),
         Expr::BareTuple { items, comma, .. } => is_bare_tuple(items.as_slice(), *comma),
@@ -345,6 +351,16 @@ fn is_derived(e: &Expr) -> bool
         Expr::Slice { base, from, to, .. } => {
             fits(AT_POSTFIX, base.get()) && fits_maybe(AT_TEST, from) && fits_maybe(AT_TEST, to)
         }
+        _ => is_derived_operation(e),
+    }
+}
+
+// An expression with an operator.
+fn is_derived_operation(e: &Expr) -> bool
+    requires { IsTrue (is_operation (tree_of e.now)) }
+    ensures { result ≡ derived (tree_of e.now) }
+{
+    match e {
         Expr::Unary { operand, .. } => fits(AT_UNARY, operand.get()),
         Expr::Binary {
             left,

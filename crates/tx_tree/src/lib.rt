@@ -11,6 +11,7 @@ mod laws;
 mod operator;
 mod stmt;
 mod symbol;
+mod takes;
 mod target;
 #[cfg(test)]
 mod tests;
@@ -21,7 +22,7 @@ pub use depths::depth;
 pub use expr::{Expr, Exprs, Maybe, Operand, Operands, Pair, Pairs};
 pub use form::well_formed;
 pub use function::{Builtin, Method, Walk, builtin_named, method_named, walk_named};
-pub use laws::spelling_is_the_grammar;
+pub use laws::{lines_are_left_out, spelling_is_the_grammar};
 pub use operator::{BinaryOp, CompareOp, UnaryOp};
 pub use stmt::{Arm, Arms, Otherwise, Stmt, Stmts, Suite};
 pub use symbol::{Keyword, Mark, keyword_named, mark_named};

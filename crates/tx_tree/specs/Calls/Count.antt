@@ -4,7 +4,6 @@ use Rattle.tx_tree.specs.declared.operator.CompareOp.{CompareOp}
 use Rattle.tx_tree.specs.declared.operator.CompareOp.TheVariants as op
 use Rattle.tx_tree.specs.declared.target.Target.{Target}
 use Rattle.tx_tree.specs.declared.target.Target.TheVariants as target
-use Rattle.tx_tree.specs.Spell.{texts_of}
 use Rattle.tx_tree.specs.Tree.{Tree, nil, truth, int, text, name, paren, tuple, bare_tuple, list, dict, comprehension, call, method, index, slice, unary, binary, compare, negation, conjunction, disjunction, conditional, Trees, none, more, PairTrees, no_pair, pair, Operands, no_operand, operand, MaybeTree, absent, present, Statement, pass, break, continue, return, assign, augment, express, branch, repeat, Body, line, indented, Statements, finish, next, Tail, nothing, otherwise, elif, ArgTree, lambda, plain, ArgTrees, HeadTree, LinkTree, ChainTree, BlockTree, define, pipeline, alone}
 
 -- the commas between so many items, and behind the last

@@ -1,6 +1,6 @@
 use Rattle.std.proofs.Common.{◌≡◌, ◌+◌, ◌^◌, ◌-◌, ◌<◌, min, map, drop}
-use Rattle.tx_tree.specs.Tree.{tree_of, trees, pair_of, pair_trees, operand_of, operands, statement_of, statements, arm_of, tail, nothing, arg_of, link_of}
-use Rattle.tx_tree.specs.Calls.Count.{count_each, count_pairs, count_operands, count_statements, count_tail, sum_of_args, count_links}
+use Rattle.tx_tree.specs.Tree.{tree_of, trees, pair_of, pair_trees, operand_of, operands}
+use Rattle.tx_tree.specs.Calls.Count.{count_each, count_pairs, count_operands}
 use Rattle.tx_tree.proofs.count.+expression.Given as goal
 
 abbrev pub invariant-count_of_exprs-loop-item : goal.invariant-count_of_exprs-loop-item

@@ -1,5 +1,5 @@
 use Rattle.std.proofs.Common.{refl}
-use Rattle.tx_tree.specs.Laws.{SpellingLaw, ExpressionExamples, StatementExamples, BlockExamples}
+use Rattle.tx_tree.specs.Laws.{ExpressionExamples, StatementExamples, BlockExamples}
 use Rattle.tx_tree.proofs.laws.spelling_is_the_grammar.Goals as goal
 
 expression_examples : ExpressionExamples
