@@ -6,7 +6,7 @@ use Rattle.std.specs.Fmt.{decimal, signed_decimal}
 use Rattle.std.specs.Int.{w128}
 use Rattle.std.specs.List.{list_all}
 use Rattle.std.specs.Option.{option_and_then}
-use Rattle.std.specs.Prelude.{FitsSigned, IfSome, MatchOption, codes, encode_utf8_all}
+use Rattle.std.specs.Prelude.{FitsSigned, MatchOption, codes, encode_utf8_all}
 use Rattle.std.specs.Result.{result_ok}
 use Rattle.std.specs.Str.{IsAscii, IsUtf8, all_ascii_digits, bytes_eq, chars, is_utf8}
 use Rattle.std.specs.Str.Parse.{AllDigits, IsNumeral, ParsesSigned, digits_value, digits_value_after, signed_digits_value, without_leading_sign}
@@ -157,7 +157,7 @@ numeral_ascii field numeral = ⊎_elim
     (signed_ascii field)
     (or_cases (bytes_eq field (codes "0")) (is_positive (without_minus field)) numeral)
 
-pub numeral_utf8 : (field : List ℕ) → is_numeral field ≡ true → IsUtf8 field
+numeral_utf8 : (field : List ℕ) → is_numeral field ≡ true → IsUtf8 field
 numeral_utf8 field numeral = IsUtf8-from_ascii field (numeral_ascii field numeral)
 
 fits_from : (n : ℤ) → is_128_bit n ≡ true → FitsSigned w128 n
@@ -201,35 +201,16 @@ true_text = chars-IsAscii (codes "True") true_ascii
 pub false_text : chars (codes "False") ≡ codes "False"
 false_text = chars-IsAscii (codes "False") false_ascii
 
-pub same_utf8 : (a b : List ℕ) → bytes_eq a b ≡ true → IsUtf8 b → is_utf8 a ≡ true
-same_utf8 a b e utf8 = ap is_utf8 ((bytes_eq-Decides a b).0 e) ∙ is_utf8-from_IsUtf8 b utf8
-
-pub true_is : IsUtf8 (codes "True")
-true_is = IsUtf8-from_ascii (codes "True") true_ascii
-
-pub false_is : IsUtf8 (codes "False")
-false_is = IsUtf8-from_ascii (codes "False") false_ascii
-
-pub numeral_is_utf8 : (field : List ℕ) → is_numeral field ≡ true → is_utf8 field ≡ true
-numeral_is_utf8 field numeral = is_utf8-from_IsUtf8 field (numeral_utf8 field numeral)
-
-pub of_some : {T : Type 0} (o : Option T) (P : Type 0) → P → IfSome o (λ _. P)
-of_some None P h = tt
-of_some (Some x) P h = h
-
-pub empty_utf8 : (field : List ℕ) → (length field == 0) ≡ true → is_utf8 field ≡ true
-empty_utf8 [] e = is_utf8-from_IsUtf8 [] (IsUtf8-from_ascii [] IsAscii-nil)
-empty_utf8 (c ∷ cs) e = absurd (omega (arith, eqb-true (length (c ∷ cs)) 0 e))
-
 pub not_utf8 : (field : List ℕ) → (IsUtf8 field → ⊥) → is_utf8 field ≡ false
 not_utf8 field refuted = false_from_ne_true (is_utf8 field) (λ t. refuted (IsUtf8-from_is_utf8 field t))
 
-same_fault : {T E : Type 0} (e f : E) (r : Result T E) → r ≡ Err e → r ≡ Err f → e ≡ f
-same_fault e f r is also = cc
+pub read_none : (words : List (List ℕ)) (field : List ℕ) → (IsUtf8 field → ⊥) → read words field ≡ None
+read_none words field refuted = rw (not_utf8 field refuted) refl
 
--- an answer that passes a fault on
-pub from_fault : {A B E : Type 0} (r : Result A E) (q : Result B E) (e f : E) (P : Type 0) → r ≡ Err e → q ≡ Err e → (r ≡ Err f → P) → q ≡ Err f → P
-from_fault r q e f P is also h t = h (is ∙ ap Err (same_fault e f q also t))
+pub read_some : (words given : List (List ℕ)) (field text : List ℕ) (v : Value) → IsUtf8 field → text ≡ field → given ≡ words → v ≡ value_of given text → read words field ≡ Some v
+read_some words given field text v utf8 e h k =
+    let is : v ≡ value_of words field = k ∙ (ap (λ w. value_of w text) h ∙ ap (value_of words) e) in
+    rw (is_utf8-from_IsUtf8 field utf8) (ap Some (sym is))
 
 -- a value that is printed as this field
 record PrintsAs (a : Value) (field : List ℕ) : Type 0 where

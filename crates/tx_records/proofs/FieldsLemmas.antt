@@ -7,11 +7,6 @@ use Rattle.std.specs.List.{list_any}
 use Rattle.csv.specs.Records.{Rising, cut_from, field_at, last_end, prev}
 use Rattle.csv.proofs.RecordFacts.{cut-end, cut-length, cut-more, field-bounds, field-cut, field-get, last-append, rising-end, rising-more}
 
--- what the buffer keeps
-pub record IsPacked (ends bytes : List ℕ) : Type 0 where
-  pub rising : Rising 0 ends (length bytes)
-  pub last : last_end 0 ends ≡ length bytes
-
 behind : (xs ys : List ℕ) → drop (length xs) (xs ++ ys) ≡ ys
 behind [] ys = refl
 behind (x ∷ xs) ys = behind xs ys

@@ -1,11 +1,16 @@
 -- Records of one number of fields in one list of fields.
-use Rattle.std.proofs.Common.{◌≡◌, ◌∙◌, ◌+◌, ◌*◌, ◌<◌, ◌≤◌, ◌-◌, ℕ, zero, suc, List, [], ◌∷◌, ◌++◌, Option, Some, None, length, take, drop, get_or, sym, refl, ap, arith, length-append, length-drop, zero-mul, zero-add, suc-add, drop-drop, slice_get}
+use Rattle.std.proofs.Common.{◌≡◌, ◌∙◌, ◌+◌, ◌*◌, ◌<◌, ◌≤◌, ◌-◌, true, ℕ, zero, suc, List, [], ◌∷◌, ◌++◌, Option, Some, None, length, take, drop, get_or, sym, refl, ap, arith, length-append, length-drop, zero-mul, zero-add, suc-add, drop-drop, slice_get}
 use Rattle.std.proofs.lemmas.List.{take-append-le, drop-append-le, length-take, map-append, take_more}
+use Rattle.std.proofs.lemmas.Bool.{and_from, and_parts}
+use Rattle.std.proofs.lemmas.List.Folds.{list_all-append}
+use Rattle.std.proofs.lemmas.Str.{IsUtf8-from_is_utf8}
+use Rattle.std.specs.List.{list_all}
 use Rattle.std.specs.Option.{option_and_then}
+use Rattle.std.specs.Str.{IsUtf8, is_utf8}
 use Rattle.std.specs.Prelude.{map, unwrap_or}
 use Rattle.std.proofs.Math.Seq.{take-length}
 use Rattle.tx_records.specs.Records.{Numbered}
-use Rattle.tx_records.specs.Calls.Packed.{rows_from}
+use Rattle.tx_records.specs.Calls.Packed.{HoldsRecords, rows_from}
 
 pub no_rows : (width : ℕ) (fields : List (List ℕ)) → rows_from width [] fields ≡ []
 unfolding rows_from
@@ -30,6 +35,13 @@ pub longer : (fields row : List (List ℕ)) (ns : List ℕ) (n width : ℕ) → 
 longer fields row ns n width e w =
     length-append fields row
     ∙ (ap (λ a. a + length row) e ∙ (ap (λ b. length ns * width + b) w ∙ (one_more (length ns) width ∙ ap (λ m. m * width) (sym (length-append ns (n ∷ []))))))
+
+pub held_more : (fields row : List (List ℕ)) (ns : List ℕ) (n width : ℕ) → HoldsRecords width ns fields → length row ≡ width → list_all is_utf8 row ≡ true
+    → HoldsRecords width (ns ++ n ∷ []) (fields ++ row)
+held_more fields row ns n width h w t = record {
+  count = longer fields row ns n width h.count w;
+  text = list_all-append is_utf8 fields row ∙ and_from (list_all is_utf8 fields) (list_all is_utf8 row) h.text t;
+}
 
 -- the records one by one
 pub length_rows : (width : ℕ) (ns : List ℕ) (fields : List (List ℕ)) → length (rows_from width ns fields) ≡ length ns
@@ -71,8 +83,17 @@ cell_at w fs row column l = take_at w (drop (row * w) fs) column l ∙ drop_at (
 pub none_kept : (w : ℕ) (ns : List ℕ) (fields : List (List ℕ)) (all : List Numbered) → ns ≡ [] → all ≡ rows_from w ns fields ++ all
 none_kept w ns fields all e = rw e (ap (λ t. t ++ all) (sym (no_rows w fields)))
 
-pub none_packed : (w : ℕ) (ns : List ℕ) (fields : List (List ℕ)) → ns ≡ [] → fields ≡ [] → length fields ≡ length ns * w
-none_packed w ns fields e f = rw (e, f) (sym (zero-mul w))
+pub none_held : (w : ℕ) (ns : List ℕ) (fields : List (List ℕ)) → ns ≡ [] → fields ≡ [] → HoldsRecords w ns fields
+none_held w ns fields e f = record {
+  count = rw (e, f) (sym (zero-mul w));
+  text = rw f refl;
+}
+
+pub held_by : (fields : List (List ℕ)) (ns : List ℕ) (names given : List (List ℕ)) (w : ℕ) → names ≡ given → w ≡ length given → HoldsRecords w ns fields → HoldsRecords (length names) ns fields
+held_by fields ns names given w e h k = record {
+  count = k.count ∙ ap (λ m. length ns * m) (h ∙ ap length (sym e));
+  text = k.text;
+}
 
 pub none_from : (w : ℕ) (ns : List ℕ) (fields : List (List ℕ)) → ns ≡ [] → rows_from w ns fields ≡ []
 none_from w ns fields e = rw e (no_rows w fields)
@@ -102,6 +123,14 @@ row_past w ns fs row column l = ap (λ o. unwrap_or (field_by column o) []) (row
 
 pub place_within : (w n row column total : ℕ) → total ≡ n * w → row < n → column < w → row * w + column < total
 place_within w n row column total e l k = grind (arith, e, l, k)
+
+-- a field that the records hold is UTF-8
+pub text_at : (fs : List (List ℕ)) (i : ℕ) (f : List ℕ) → list_all is_utf8 fs ≡ true → slice_get fs i ≡ Some f → IsUtf8 f
+text_at [] i f e h = cc h
+text_at (x ∷ fs) zero f e h =
+    let same : x ≡ f = cc in
+    rw (← same) (IsUtf8-from_is_utf8 x (and_parts (is_utf8 x) (list_all is_utf8 fs) e).0)
+text_at (x ∷ fs) (suc i) f e h = text_at fs i f (and_parts (is_utf8 x) (list_all is_utf8 fs) e).1 h
 
 -- the record at a place
 get_is : (rs : List Numbered) (i : ℕ) (r d : Numbered) → slice_get rs i ≡ Some r → get_or rs i d ≡ r

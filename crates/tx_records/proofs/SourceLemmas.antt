@@ -1,17 +1,18 @@
 -- The good and the faulty records, one after the other.
-use Rattle.std.proofs.Common.{◌≡◌, ◌∙◌, ◌==◌, ◌+◌, ◌*◌, ℕ, Bool, true, false, not, List, [], ◌∷◌, ◌++◌, Option, Some, None, if◌then◌else◌, length, refl, sym, ap, append_assoc, append-nil}
-use Rattle.std.specs.List.{enumerate_from}
+use Rattle.std.proofs.Common.{◌≡◌, ◌∙◌, ◌==◌, ◌+◌, ℕ, Bool, true, false, not, List, [], ◌∷◌, ◌++◌, Option, Some, None, if◌then◌else◌, length, refl, sym, ap, append_assoc, append-nil}
+use Rattle.std.specs.List.{enumerate_from, list_all, list_any}
 use Rattle.std.specs.Option.{is_some}
-use Rattle.std.proofs.lemmas.Bool.{eqb-true}
+use Rattle.std.specs.Str.{is_utf8}
+use Rattle.std.proofs.lemmas.Bool.{and_from, eqb-true, not-false, or_parts}
 use Rattle.std.proofs.lemmas.Grind.{flat_map-append}
 use Rattle.std.proofs.lemmas.List.Elements.{filter-append}
 use Rattle.tx_base.specs.declared.class.Class.{Class}
-use Rattle.tx_base.specs.declared.class.Class.TheVariants.{RecordError}
+use Rattle.tx_base.specs.declared.class.Class.TheVariants.{RecordError, UnicodeDecodeError}
 use Rattle.tx_report.specs.declared.report.Entry.{Entry}
 use Rattle.tx_records.specs.Source.{kept_source, source_by}
 use Rattle.tx_records.specs.Calls.Packed.{rows_from}
 use Rattle.tx_records.specs.declared.dialect.Dialect.{Dialect}
-use Rattle.tx_records.specs.Records.{Numbered, Record, entry_of, fault_of, faults_in, good_in, is_good, raised_by}
+use Rattle.tx_records.specs.Records.{Numbered, Record, entry_of, fault_of, faults_in, good_in, is_good, is_no_text, is_too_long, raised_by}
 
 -- ---- one record
 
@@ -34,6 +35,22 @@ wide_by false o e = cc e
 -- a good record has the number of fields that there are columns
 pub wide : (w : ℕ) (f : Record) → raised_by w f ≡ None → length f ≡ w
 wide w f e = eqb-true (length f) w (wide_by (length f == w) _ e)
+
+text_by : (wide long bad : Bool) → (if not wide then Some RecordError else if long then Some RecordError else if bad then Some UnicodeDecodeError else None) ≡ None → bad ≡ false
+text_by true false false e = refl
+text_by true false true e = cc e
+text_by true true bad e = cc e
+text_by false long bad e = cc e
+
+all_text : (f : Record) → list_any is_no_text f ≡ false → list_all is_utf8 f ≡ true
+all_text [] e = refl
+all_text (x ∷ xs) e =
+    let parts = or_parts (is_no_text x) (list_any is_no_text xs) e in
+    and_from (is_utf8 x) (list_all is_utf8 xs) (not-false (is_utf8 x) parts.0) (all_text xs parts.1)
+
+-- and its fields are UTF-8
+pub text : (w : ℕ) (f : Record) → raised_by w f ≡ None → list_all is_utf8 f ≡ true
+text w f e = all_text f (text_by (length f == w) (list_any is_too_long f) (list_any is_no_text f) e)
 
 -- ---- all records
 
@@ -67,9 +84,6 @@ same_source d operator names n2 good g2 faults f2 e h k =
 
 pub none_added : (faults all : List Entry) → faults ≡ [] → all ≡ faults ++ all
 none_added faults all e = ap (λ t. t ++ all) (sym e)
-
-pub packed_by : (fields : List (List ℕ)) (ns : List ℕ) (names given : Record) (w : ℕ) → names ≡ given → w ≡ length given → length fields ≡ length ns * w → length fields ≡ length ns * length names
-packed_by fields ns names given w e h k = k ∙ ap (λ m. length ns * m) (h ∙ ap length (sym e))
 
 -- what was kept is what all records give
 pub kept_at : (d : Dialect) (operator : ℕ) (names given : Record) (w : ℕ) (ns : List ℕ) (fields : List (List ℕ)) (faults : List Entry) (all : List Record) → names ≡ given → w ≡ length given

@@ -1,6 +1,6 @@
 // The cell rule: what a field is read as, and how a value is printed.
 ghost use Rattle.std.specs.Prelude.{◌≡◌, [], codes, if◌then◌else◌, true, false, Some, None, IfOk, OnOk, IfSome, IsTrue, MatchOption, IsErrOf};
-ghost use Rattle.std.specs.Str.{chars, is_utf8};
+ghost use Rattle.std.specs.Str.{chars};
 ghost use Rattle.tx_values.specs.declared.value.Value as value;
 ghost use Rattle.tx_records.specs.Cell.{is_null, is_numeral, is_positive, is_scalar, number_or_text, read, text_of, value_of};
 ghost use Rattle.tx_records.specs.Laws.{CellLaw};
@@ -62,27 +62,21 @@ fn is_numeral(field: &[u8]) -> bool
 }
 
 // The integer of a field that is a numeral within 128 bits. Most are within 64, which are read faster.
-#[tactic(auto, using(crate::proofs::CellLemmas::numeral_utf8))]
-fn integer_of(field: &[u8]) -> Option<i128>
-    ensures value { MatchOption result (number_or_text field.now ≡ value.Text (chars field.now)) (λ n. number_or_text field.now ≡ value.Int n) }
-    ensures utf8 { IfSome result (λ n. is_utf8 field.now ≡ true) }
+fn integer_of(field: &str) -> Option<i128>
+    ensures { MatchOption result (number_or_text field.now ≡ value.Text (chars field.now)) (λ n. number_or_text field.now ≡ value.Int n) }
 {
-    if !is_numeral(field) {
+    if !is_numeral(field.as_bytes()) {
         return None;
     }
-    let Ok(text) = str::from_utf8(field) else {
-        return None;
-    };
-    match text.parse::<i64>() {
+    match field.parse::<i64>() {
         Ok(n) => Some(n as i128),
-        Err(_) => text.parse::<i128>().ok(),
+        Err(_) => field.parse::<i128>().ok(),
     }
 }
 
 // Whether a field is empty or one of the words that stand for None.
 fn is_null(words: &Texts, field: &[u8]) -> bool
-    ensures null { result ≡ is_null words.now field.now }
-    ensures utf8 { result ≡ true → is_utf8 field.now ≡ true }
+    ensures { result ≡ is_null words.now field.now }
 {
     if field.is_empty() {
         return true;
@@ -95,28 +89,24 @@ fn is_null(words: &Texts, field: &[u8]) -> bool
     false
 }
 
-/// The value of a field, under the words that stand for None.
-pub(crate) fn read_value(alloc: Global, words: &Texts, field: &[u8]) -> Result<Value, Utf8Fault>
-    ensures value { IfOk result (λ v. v ≡ value_of words.now field.now) }
-    ensures utf8 { OnOk result (is_utf8 field.now ≡ true) }
-    ensures fault { IsErrOf result Utf8Fault.NotUtf8 → is_utf8 field.now ≡ false }
+/// The value of a field of UTF-8, under the words that stand for None.
+pub(crate) fn value_of(alloc: Global, words: &Texts, field: &str) -> Result<Value, NoMemory>
+    ensures { IfOk result (λ v. v ≡ value_of words.now field.now) }
 {
-    if is_null(words, field) {
+    if is_null(words, field.as_bytes()) {
         return Ok(Value::Nil);
     }
-    if field == b"True".as_slice() {
+    if field == "True" {
         return Ok(Value::Truth(true));
     }
-    if field == b"False".as_slice() {
+    if field == "False" {
         return Ok(Value::Truth(false));
     }
     if let Some(n) = integer_of(field) {
         return Ok(Value::Int(n));
     }
-    match PyText::from_utf8(alloc, field) {
-        Ok(text) => Ok(Value::Text(text)),
-        Err(fault) => Err(fault),
-    }
+    let text = PyText::from_str(alloc, field)?;
+    Ok(Value::Text(text))
 }
 
 /// The value of a field: None of an empty one, a truth value of `True` and `False`, an integer of `0` or an optional `-`
@@ -126,7 +116,13 @@ pub fn read_cell(alloc: Global, f: &[u8]) -> Result<Value, Utf8Fault>
     ensures value { IfOk result (λ v. read [] f.now ≡ Some v) }
     ensures fault { IsErrOf result Utf8Fault.NotUtf8 → read [] f.now ≡ None }
 {
-    read_value(alloc, &Texts::new(alloc), f)
+    let Ok(field) = str::from_utf8(f) else {
+        return Err(Utf8Fault::NotUtf8);
+    };
+    match value_of(alloc, &Texts::new(alloc), field) {
+        Ok(value) => Ok(value),
+        Err(_) => Err(Utf8Fault::NoMemory),
+    }
 }
 
 // The word of a truth value.

@@ -1,9 +1,9 @@
 // A file as a source: the names of its columns, its good records and its faulty ones.
-ghost use Rattle.std.specs.Prelude.{◌≡◌, ◌∷◌, ◌++◌, ◌*◌, [], length, IfOk, OnOk};
+ghost use Rattle.std.specs.Prelude.{◌≡◌, ◌∷◌, ◌++◌, [], length, None, IfOk, OnOk};
 ghost use Rattle.csv.specs.Records.{fields_of};
-ghost use Rattle.tx_records.specs.Records.{entry_of, faults_in, good_in, plain, records_of};
+ghost use Rattle.tx_records.specs.Records.{entry_of, faults_in, good_in, plain, raised_by, records_of};
 ghost use Rattle.tx_records.specs.Source.{kept_source, source_by, source_headed, source_of};
-ghost use Rattle.tx_records.specs.Calls.Packed.{rows_from};
+ghost use Rattle.tx_records.specs.Calls.Packed.{HoldsRecords, rows_from};
 ghost use Rattle.tx_records.specs.Calls.Reading.{Stands, left_of};
 
 use crate::dialect::Dialect;
@@ -109,9 +109,9 @@ fn nothing_kept(alloc: Global, room: Room) -> Result<Kept, NoMemory>
 
 // Keeps a good record.
 fn keep_good(kept: &mut Kept, row: &ByteRecord, number: u32, width: usize) -> Result<(), NoMemory>
-    requires packed { length kept.old.fields ≡ length kept.old.numbers.items * width }
-    requires wide { length (fields_of row.now) ≡ width }
-    ensures packed { OnOk result (length kept.new.fields ≡ length kept.new.numbers.items * width) }
+    requires holds { HoldsRecords width kept.old.numbers.items kept.old.fields }
+    requires good { raised_by width (fields_of row.now) ≡ None }
+    ensures holds { OnOk result (HoldsRecords width kept.new.numbers.items kept.new.fields) }
     ensures good { OnOk result (rows_from width kept.new.numbers.items kept.new.fields ≡ rows_from width kept.old.numbers.items kept.old.fields ++ (number, fields_of row.now) ∷ []) }
     ensures faults { OnOk result (kept.new.faults ≡ kept.old.faults) }
 {
@@ -151,8 +151,8 @@ fn keep(
     number: u32,
     width: usize,
 ) -> Result<(), NoMemory>
-    requires { length kept.old.fields ≡ length kept.old.numbers.items * width }
-    ensures packed { OnOk result (length kept.new.fields ≡ length kept.new.numbers.items * width) }
+    requires { HoldsRecords width kept.old.numbers.items kept.old.fields }
+    ensures holds { OnOk result (HoldsRecords width kept.new.numbers.items kept.new.fields) }
     ensures good { OnOk result (rows_from width kept.new.numbers.items kept.new.fields ≡ rows_from width kept.old.numbers.items kept.old.fields ++ good_in width ((number, fields_of row.now) ∷ [])) }
     ensures faults { OnOk result (kept.new.faults ≡ kept.old.faults ++ faults_in operator width ((number, fields_of row.now) ∷ [])) }
 {
@@ -164,7 +164,7 @@ fn keep(
 
 // The source of what was kept.
 fn finished(dialect: Dialect, operator: u32, names: Names, kept: Kept) -> CsvSource
-    requires { length kept.fields ≡ length kept.numbers.items * length names }
+    requires { HoldsRecords (length names) kept.numbers.items kept.fields }
     ensures { result ≡ kept_source dialect operator names (rows_from (length names) kept.numbers.items kept.fields) kept.faults }
 {
     let width = names.len();

@@ -1,9 +1,9 @@
 // The good records of a source, kept as bytes.
-ghost use Rattle.std.specs.Prelude.{◌≡◌, ◌<◌, [], length, map, IfOk, unwrap_or};
+ghost use Rattle.std.specs.Prelude.{◌≡◌, ◌<◌, [], length, map, IfOk, IsUtf8, unwrap_or};
 ghost use Rattle.tx_records.specs.Cell.{value_of};
 ghost use Rattle.tx_records.specs.Records.{field_in, numbered_at, row_of};
 
-use crate::cell::read_value;
+use crate::cell::value_of;
 use crate::dialect::Dialect;
 use crate::fields::Fields;
 use std::marker::Model;
@@ -22,15 +22,14 @@ pub struct RawRows {
 }
 
 impl Model for RawRows {
-    ghost use Rattle.std.specs.Prelude.{◌≡◌, ◌*◌, length};
     ghost use Rattle.tx_records.specs.Records.{Raw};
-    ghost use Rattle.tx_records.specs.Calls.Packed.{rows_from};
+    ghost use Rattle.tx_records.specs.Calls.Packed.{HoldsRecords, rows_from};
 
     ghost Value = { Raw };
 
     ghost view = { λ r. record { dialect = r.dialect; operator = r.operator; records = rows_from r.width r.numbers.items r.fields } };
 
-    ghost invariant = { λ r. length r.fields ≡ length r.numbers.items * r.width };
+    ghost invariant = { λ r. HoldsRecords r.width r.numbers.items r.fields };
 }
 
 impl RawRows {
@@ -43,7 +42,8 @@ impl RawRows {
 
     /// A field of a good record, as it stands in the file; an empty one where there is no such record or column.
     pub fn field(&self, row: usize, column: usize) -> &[u8]
-        ensures { result.now ≡ unwrap_or (field_in self.now row column) [] }
+        ensures value { result.now ≡ unwrap_or (field_in self.now row column) [] }
+        ensures text { IsUtf8 result.now }
     {
         let _fields = self.fields.len();
         if row < self.numbers.len() && column < self.width {
@@ -57,11 +57,10 @@ impl RawRows {
         ensures { IfOk result (λ v. v ≡ value_of self.now.dialect.null (unwrap_or (field_in self.now row column) [])) }
     {
         let alloc = *self.numbers.allocator();
-        match read_value(alloc, &self.dialect.null, self.field(row, column)) {
-            Ok(value) => Ok(value),
-            // Memory: a good record has no field that is no UTF-8.
-            Err(_) => Err(NoMemory),
-        }
+        let Ok(field) = str::from_utf8(self.field(row, column)) else {
+            unreachable!();
+        };
+        value_of(alloc, &self.dialect.null, field)
     }
 
     // The values of a good record.

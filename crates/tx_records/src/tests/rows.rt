@@ -13,6 +13,7 @@ a,b=a,b/
 ~a/1=a/1/
 a/1=a/1/
 p;q?=p,q/
+a,b/007,k/-0,k/+1,k/true,k/-5,k/,k/=a,b/007,k/-0,k/+1,k/true,k/-5,k/,k/
 b,a/k,007/k,-0/k,+1/k,true/k,-5/k,/=b,a/k,007/k,-0/k,+1/k,true/k,-5/k,/
 a,b,c/1,2,#/3,4,5/=a,b,c/3,4,5/
 a,b,c/1,#/3,4,5/=a,b,c/3,4,5/
@@ -45,7 +46,7 @@ fn cells_are_copied_unchanged(rt: HostRuntime) {
         assert!(rt; holds(rt.alloc(), row) == Ok(true), "{row}");
         rows = rows.wrapping_add(1);
     }
-    assert!(rt; rows == 12);
+    assert!(rt; rows == 13);
 }
 
 const LAST: &[u8] = b"x y";

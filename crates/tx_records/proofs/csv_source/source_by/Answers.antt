@@ -2,8 +2,8 @@ use Rattle.std.proofs.Common.{◌≡◌, ◌∙◌, refl, true, false}
 use Rattle.csv.specs.Records.{fields_of}
 use Rattle.tx_records.specs.Calls.Packed.{rows_from}
 use Rattle.tx_records.specs.Calls.Reading.{left_of}
-use Rattle.tx_records.proofs.PackedLemmas.{none_kept, none_packed}
-use Rattle.tx_records.proofs.SourceLemmas.{faults_end, faults_step, good_end, good_step, none_added, packed_by, kept_at}
+use Rattle.tx_records.proofs.PackedLemmas.{held_by, none_held, none_kept}
+use Rattle.tx_records.proofs.SourceLemmas.{faults_end, faults_step, good_end, good_step, none_added, kept_at}
 use Rattle.tx_records.proofs.csv_source.source_by.Goals as goal
 
 pub records-init : goal.records-init
@@ -12,7 +12,7 @@ records-init c =
     record {
       names = refl;
       stands = c.requires;
-      packed = none_packed c.len-width.result kept.numbers.items kept.fields c.in_ok-kept.ensures.numbers c.in_ok-kept.ensures.fields;
+      holds = none_held c.len-width.result kept.numbers.items kept.fields c.in_ok-kept.ensures.numbers c.in_ok-kept.ensures.fields;
       good = none_kept c.len-width.result kept.numbers.items kept.fields _ c.in_ok-kept.ensures.numbers;
       faults = none_added kept.faults _ c.in_ok-kept.ensures.faults;
     }
@@ -20,7 +20,7 @@ records-init c =
 pub finished-requires : goal.finished-requires
 finished-requires c =
     let inv = c.records.invariant in
-    packed_by c.records.kept.fields c.records.kept.numbers.items c.records.names c.args.names c.len-width.result inv.names c.len-width.ensures inv.packed
+    held_by c.records.kept.fields c.records.kept.numbers.items c.records.names c.args.names c.len-width.result inv.names c.len-width.ensures inv.holds
 
 pub returns-then-not-found : goal.returns-then-not-found
 returns-then-not-found c =
@@ -44,7 +44,7 @@ records-preserved c =
     record {
       names = inv.names;
       stands = c.in_ok-found.ensures.stands more;
-      packed = c.in_ok-keep.ensures.packed;
+      holds = c.in_ok-keep.ensures.holds;
       good = good_step c.len-width.result c.records.number f left (left_of c.records.reader) _ _ _ next inv.good c.in_ok-keep.ensures.good;
       faults = faults_step c.args.operator c.len-width.result c.records.number f left (left_of c.records.reader) _ _ _ next inv.faults c.in_ok-keep.ensures.faults;
     }
