@@ -1,12 +1,12 @@
 -- Chains: a store ahead of a chain leaves it as it is, and an index takes one more row in front.
-use Rattle.std.proofs.Common.{◌≡◌, ◌≢◌, ◌<◌, ◌≤◌, ◌+◌, ◌&&◌, ℕ, Bool, true, false, cond, List, [], ◌∷◌, Option, None, Some, if◌then◌else◌, length, slice_get, slice_set, unwrap_or, refl, sym, ap, subst, ◌∙◌, arith}
+use Rattle.std.proofs.Common.{◌≡◌, ◌≢◌, ◌<◌, ◌≤◌, ◌+◌, ◌&&◌, ℕ, Bool, true, false, cond, List, [], ◌∷◌, Option, None, Some, if◌then◌else◌, length, slice_set, refl, sym, ap, subst, ◌∙◌, arith}
 use Rattle.std.proofs.lemmas.List.{length-set, get_or-set_same, get_or-set_other}
 use Rattle.std.proofs.lemmas.Option.{unwrap_or-slice_get, none-some}
 use Rattle.std.specs.Prelude.{◌↔◌}
 use Rattle.tx_values.specs.declared.row.Row.{Row}
 use Rattle.tx_values.specs.Keys.{key_of, same_key}
 use Rattle.tx_joins.specs.Join.{cell_of, has_key}
-use Rattle.tx_joins.specs.Calls.Chains.{KeyAtoms, has_this_key, places_of, behind, IsChain, IsIndex}
+use Rattle.tx_joins.specs.Calls.Chains.{KeyAtoms, has_this_key, places_of, behind, IsChain, IsIndex, head_of}
 
 -- ---- chains
 
@@ -119,3 +119,15 @@ module _ (same : (a b : KeyAtoms) → (same_key a b ≡ true) ↔ (a ≡ b)) whe
           (subst (λ (s : Option ℕ). IsChain stored at s (places_of column key (at + 1) rows))
           (sym (head key ∙ ap (λ (b : Bool). cond b (Some at) (old key)) e))
           (lower stored at (at + 1) (old key) (places_of column key (at + 1) rows) (omega arith) rest))
+
+-- ---- what an index says of a row
+
+-- where it says something, the row has a key, and it says where the chain of that key begins
+pub head_of-some : (column : ℕ) (head : KeyAtoms → Option ℕ) (row : Row) (first : Option ℕ) → Some first ≡ head_of column head row
+    → (has_key column row ≡ true) × (first ≡ head (key_of (cell_of column row)))
+head_of-some column head row first told = by (has_key column row) refl told
+  where
+    by : (b : Bool) → has_key column row ≡ b → Some first ≡ (if b then Some (head (key_of (cell_of column row))) else None)
+        → (has_key column row ≡ true) × (first ≡ head (key_of (cell_of column row)))
+    by true e h = (e, cc)
+    by false e h = absurd (none-some first (sym h))

@@ -1,3 +1,4 @@
 mod Chains
-mod SeenRows
 mod Pairs
+mod Rows
+mod SeenRows

@@ -1,5 +1,5 @@
 -- The rows at the places of a key are the rows with that key, and so the pairs of a left row.
-use Rattle.std.proofs.Common.{◌≡◌, ◌+◌, ◌++◌, ◌&&◌, ℕ, Bool, true, false, cond, List, [], ◌∷◌, Option, None, Some, filter, map, length, slice_get, refl, sym, ap, subst, ◌∙◌, append_assoc, append-nil, if◌then◌else◌, arith}
+use Rattle.std.proofs.Common.{◌≡◌, ◌+◌, ◌++◌, ◌&&◌, ℕ, Bool, true, false, cond, List, [], ◌∷◌, Option, Some, filter, map, length, slice_get, refl, sym, ap, subst, ◌∙◌, append_assoc, append-nil, if◌then◌else◌}
 use Rattle.std.proofs.lemmas.List.{length_push}
 use Rattle.std.specs.Prelude.{◌↔◌}
 use Rattle.tx_values.specs.Laws.{KeysLaw}
@@ -8,7 +8,7 @@ use Rattle.std.specs.Option.{option_map_or}
 use Rattle.tx_values.specs.declared.row.Row.{Row}
 use Rattle.tx_values.specs.Equality.{equal}
 use Rattle.tx_values.specs.Keys.{key_of, same_key}
-use Rattle.tx_joins.specs.Join.{alone, cell_of, has_key, or_alone, pair_of, pairs_of}
+use Rattle.tx_joins.specs.Join.{alone, cell_of, has_key, joined_rows, or_alone, pair_of, pairs_of}
 use Rattle.tx_joins.specs.Calls.Chains.{KeyAtoms, has_this_key, places_of, pair_at}
 use Rattle.tx_joins.proofs.Chains.{places-take, places-pass}
 
@@ -178,3 +178,22 @@ module _ (same : (a b : KeyAtoms) → (same_key a b ≡ true) ↔ (a ≡ b)) (la
       → old ≡ old ++ (if has_key left_key left then or_alone false width left (pairs_of left_key right_key (filter (has_key right_key) rights) left) else [])
   unfolding places pairs given
   given-nothing width old e = sym (append-nil old) ∙ ap (λ (rs : List Row). old ++ rs) (sym (given-is false width ∙ ap (or_alone false width left) (no_pairs e)))
+
+-- ---- a join, row by row
+
+-- what the first left row gives, and then what the others give
+pub joined_rows-front : (keep : Bool) (width left_key right_key : ℕ) (left : Row) (lefts rights : List Row)
+    → (if has_key left_key left then or_alone keep width left (pairs_of left_key right_key (filter (has_key right_key) rights) left) else [])
+    ++ joined_rows keep width left_key right_key lefts rights
+    ≡ joined_rows keep width left_key right_key (left ∷ lefts) rights
+joined_rows-front keep width left_key right_key left lefts rights = by (has_key left_key left)
+  where
+    gives : Row → List Row
+    gives row = or_alone keep width row (pairs_of left_key right_key (filter (has_key right_key) rights) row)
+
+    others : List Row
+    others = filter (has_key left_key) lefts
+
+    by : (b : Bool) → (if b then gives left else []) ++ flat_map gives others ≡ flat_map gives (cond b (left ∷ others) others)
+    by true = refl
+    by false = refl

@@ -1,5 +1,5 @@
 -- The keys that were seen tell which rows are equal to one ahead.
-use Rattle.std.proofs.Common.{◌≡◌, ◌++◌, ◌||◌, ◌&&◌, ℕ, Bool, true, false, cond, List, [], ◌∷◌, Option, None, Some, is_some, filter, if◌then◌else◌, refl, sym, ap, subst, ◌∙◌, append_assoc, not, true≢false}
+use Rattle.std.proofs.Common.{◌≡◌, ◌++◌, ◌||◌, ◌&&◌, ℕ, Bool, true, false, List, [], ◌∷◌, Option, None, Some, is_some, if◌then◌else◌, refl, sym, ap, ◌∙◌, not, true≢false}
 use Rattle.std.proofs.lemmas.List.Folds.{list_any-append}
 use Rattle.std.specs.Prelude.{◌↔◌}
 use Rattle.std.specs.List.{list_all, list_any}
@@ -9,7 +9,7 @@ use Rattle.tx_values.specs.declared.row.Row.{Row}
 use Rattle.tx_values.specs.Keys.{key_of, same_key}
 use Rattle.tx_values.specs.Laws.{KeysLaw}
 use Rattle.tx_joins.specs.FirstPlaces.{FirstPlace, seen_at, was_seen}
-use Rattle.tx_joins.specs.Unique.{cells_of, first_rows, has_keys, same_cells}
+use Rattle.tx_joins.specs.Unique.{cells_of, has_keys, same_cells}
 use Rattle.tx_joins.specs.Calls.Seen.{AreSeen}
 
 -- ---- tests and lists

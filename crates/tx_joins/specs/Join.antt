@@ -1,5 +1,5 @@
 -- A join of two lists of rows: the list of all pairs whose keys are equal, by left row and then by right row.
-use Rattle.std.specs.Prelude.{ℕ, ◌-◌, ◌++◌, Bool, true, false, not, List, [], ◌∷◌, filter, map, replicate, remove, slice_get, unwrap_or}
+use Rattle.std.specs.Prelude.{ℕ, ◌-◌, ◌++◌, Bool, true, not, List, [], ◌∷◌, filter, map, replicate, remove, slice_get, unwrap_or}
 use Rattle.std.specs.List.{flat_map}
 use Rattle.tx_values.specs.declared.value.Value.{Value}
 use Rattle.tx_values.specs.declared.value.Value.TheVariants.{Nil}

@@ -1,6 +1,6 @@
 // An index of first places.
 ghost use Rattle.std.specs.Prelude.{◌≡◌, [], IfOk, OnOk, OnErr, length, not};
-ghost use Rattle.tx_joins.specs.FirstPlaces.{number_of_key, seen_at, was_seen};
+ghost use Rattle.tx_joins.specs.FirstPlaces.{number_of_key, place_of_number, seen_at, was_seen};
 
 use indexmap::IndexMap;
 use std::alloc::Global;
@@ -34,11 +34,30 @@ impl FirstPlaces {
         }
     }
 
+    /// The empty index, with room for so many keys.
+    pub(crate) fn with_room(alloc: Global, count: usize) -> Result<Self, NoMemory>
+        ensures { IfOk result (λ f. f ≡ []) }
+    {
+        Ok(FirstPlaces {
+            places: IndexMap::with_capacity(alloc, count)?,
+        })
+    }
+
     /// How many keys were seen.
     pub fn len(&self) -> usize
         ensures { result ≡ length self.now }
     {
         self.places.len()
+    }
+
+    /// The place where the key with this number was seen first.
+    pub fn place(&self, number: usize) -> Option<u32>
+        ensures { result ≡ place_of_number self.now number }
+    {
+        match self.places.get_index(number) {
+            Some((_, place)) => Some(*place),
+            None => None,
+        }
     }
 
     /// Sees a key at a place. Answers its number among the keys in the order of their first places, that of a new key being

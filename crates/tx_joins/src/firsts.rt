@@ -9,9 +9,7 @@ ghost use Rattle.tx_joins.specs.Calls.Seen.{AreSeen};
 use crate::{FirstPlaces, Joined};
 use std::alloc::Global;
 use tx_text::NoMemory;
-use tx_values::{
-    Key, OpError, Origins, Row, Rows, copy_row, hashable, key_of_items, keys_follow_equality,
-};
+use tx_values::{Key, OpError, Origins, Row, Rows, copy_row, key_of_items, keys_follow_equality};
 
 // The key of all cells of a row, or none where one is not hashable.
 fn key_of_cells(alloc: Global, row: &Row) -> Result<Option<Key>, NoMemory>
@@ -22,30 +20,6 @@ fn key_of_cells(alloc: Global, row: &Row) -> Result<Option<Key>, NoMemory>
         Err(OpError::Raise(_)) => Ok(None),
         Err(OpError::NoMemory) => Err(NoMemory),
     }
-}
-
-// Whether all cells of a row are hashable.
-fn has_keys(row: &Row) -> bool
-    ensures { result ≡ has_keys row.now }
-{
-    for cell in row.cells.as_slice() {
-        if !hashable(cell) {
-            return false;
-        }
-    }
-    true
-}
-
-// Adds the origins of the rows with an unhashable cell.
-fn add_keyless_rows(rows: &Rows, origins: &mut Origins) -> Result<(), NoMemory>
-    ensures { OnOk result (origins.new ≡ origins.old ++ keyless_rows rows.now) }
-{
-    for row in rows.as_slice() {
-        if !has_keys(row) {
-            origins.push(row.origin.copy()?)?;
-        }
-    }
-    Ok(())
 }
 
 // Adds a row that has this key, where it is the first with it.
@@ -72,14 +46,16 @@ fn add_new(
     }
 }
 
-// Adds a row, where it has a key and is the first with it.
+// Adds a row, where it has a key and is the first with it, or its origin, where it has none.
 fn add_row(
     alloc: Global,
     row: &Row,
     place: u32,
     seen: &mut FirstPlaces,
     kept: &mut Rows,
+    unhashable: &mut Origins,
 ) -> Result<(), NoMemory>
+    ensures unhashable { OnOk result (unhashable.new ≡ unhashable.old ++ keyless_rows (row.now ∷ [])) }
     ensures seen { (ahead : List Row) → AreSeen seen.old ahead
         → OnOk result (AreSeen seen.new (ahead ++ filter has_keys (row.now ∷ []))) }
     ensures kept { (ahead rows : List Row) → AreSeen seen.old ahead
@@ -87,7 +63,7 @@ fn add_row(
         ≡ kept.old ++ first_rows ahead (filter has_keys (row.now ∷ []) ++ rows)) }
 {
     match key_of_cells(alloc, row)? {
-        None => Ok(()),
+        None => unhashable.push(row.origin.copy()?),
         Some(key) => add_new(alloc, row, place, key, seen, kept),
     }
 }
@@ -97,14 +73,20 @@ pub fn unique(alloc: Global, rows: &Rows) -> Result<Joined, NoMemory>
     ensures rows { IfOk result (λ j. j.rows ≡ unique_rows rows.now) }
     ensures unhashable { IfOk result (λ j. j.unhashable ≡ keyless_rows rows.now) }
 {
-    let mut unhashable = Origins::new(alloc);
-    add_keyless_rows(rows, &mut unhashable)?;
-    let mut seen = FirstPlaces::new(alloc);
-    let mut kept = Rows::new(alloc);
     let len = rows.len();
     let all = rows.as_slice();
+    let mut seen = FirstPlaces::with_room(alloc, len)?;
+    let mut kept = Rows::new(alloc);
+    let mut unhashable = Origins::new(alloc);
     for place in 0..len {
-        add_row(alloc, &all[place], place as u32, &mut seen, &mut kept)?;
+        add_row(
+            alloc,
+            &all[place],
+            place as u32,
+            &mut seen,
+            &mut kept,
+            &mut unhashable,
+        )?;
     }
     Ok(Joined {
         rows: kept,

@@ -1,11 +1,11 @@
 // An index of rows by their keys in a column.
-ghost use Rattle.std.specs.Prelude.{◌≡◌, ◌<◌, ◌+◌, [], ◌∷◌, ℕ, List, true, false, IfOk, MatchOption, OnOk, length, slice_set};
+ghost use Rattle.std.specs.Prelude.{◌≡◌, ◌<◌, ◌+◌, [], ◌∷◌, ℕ, List, true, false, IfOk, MatchOption, OnOk, length, map, slice_set};
 ghost use Rattle.std.specs.HashMap.{get};
 ghost use Rattle.tx_values.specs.declared.row.Row.{Row};
 ghost use Rattle.tx_values.specs.Keys.{key_of, same_key};
 ghost use Rattle.tx_values.specs.Valid.{hashable};
 ghost use Rattle.tx_joins.specs.Join.{cell_of, has_key};
-ghost use Rattle.tx_joins.specs.Calls.Chains.{IsIndex, behind};
+ghost use Rattle.tx_joins.specs.Calls.Chains.{IsIndex, behind, head_of};
 
 use indexmap::IndexMap;
 use std::alloc::Global;
@@ -93,7 +93,7 @@ fn add_row(
     }
 }
 
-// An index of no row, with room for the places of so many.
+// An index of no row, with room for so many.
 fn empty_index(alloc: Global, len: usize) -> Result<Index, NoMemory>
     ensures next { IfOk result (λ index. length index.next.items ≡ len) }
     ensures heads { IfOk result (λ index. index.heads.entries ≡ []) }
@@ -103,7 +103,7 @@ fn empty_index(alloc: Global, len: usize) -> Result<Index, NoMemory>
         next.push(None)?;
     }
     Ok(Index {
-        heads: IndexMap::new(alloc),
+        heads: IndexMap::with_capacity(alloc, len)?,
         next,
     })
 }
@@ -120,4 +120,36 @@ pub(crate) fn index_of(alloc: Global, rows: &Rows, column: usize) -> Result<Inde
         add_row(alloc, &mut index, &all[place], column, place as u32)?;
     }
     Ok(index)
+}
+
+// What an index says of a row: nothing where it has no key in the column, and else the place of the first row of the index
+// with its key, if there is one.
+fn head_of(
+    alloc: Global,
+    index: &Index,
+    row: &Row,
+    column: usize,
+) -> Result<Option<Option<u32>>, NoMemory>
+    ensures { IfOk result (λ head. head ≡ head_of column (get same_key index.now.heads) row.now) }
+{
+    match key_of_row(alloc, row, column)? {
+        None => Ok(None),
+        Some(key) => Ok(Some(index.heads.get(&key).copied())),
+    }
+}
+
+/// What an index says of each of some rows. Asked of all rows in turn, without other work in between, it is told sooner.
+pub(crate) fn heads_of(
+    alloc: Global,
+    index: &Index,
+    rows: &Rows,
+    column: usize,
+) -> Result<Vec<Option<Option<u32>>>, NoMemory>
+    ensures { IfOk result (λ heads. heads.items ≡ map (head_of column (get same_key index.now.heads)) rows.now) }
+{
+    let mut heads = Vec::with_capacity(alloc, rows.len())?;
+    for row in rows.as_slice() {
+        heads.push(head_of(alloc, index, row, column)?)?;
+    }
+    Ok(heads)
 }

@@ -5,10 +5,10 @@ ghost use Rattle.std.specs.List.{flat_map};
 ghost use Rattle.tx_values.specs.declared.row.Row.{Row};
 ghost use Rattle.tx_values.specs.Keys.{same_key};
 ghost use Rattle.tx_joins.specs.Join.{has_key, joined_rows, keyless, or_alone, pairs_of};
-ghost use Rattle.tx_joins.specs.Calls.Chains.{IsChain, IsIndex, pair_at};
+ghost use Rattle.tx_joins.specs.Calls.Chains.{IsChain, IsIndex, head_of, pair_at};
 
 use crate::Joined;
-use crate::index::{Index, behind, has_key, index_of, key_of_row};
+use crate::index::{Index, behind, has_key, heads_of, index_of};
 use crate::row_copies::{alone_row, pair};
 use std::alloc::Global;
 use tx_text::NoMemory;
@@ -49,8 +49,10 @@ fn add_pairs(
         match start {
             None => return Ok(()),
             Some(place) => {
+                // Read first, so that it is fetched beside the right row.
+                let after = behind(next, place);
                 add_pair(alloc, left, rights, right_key, place, rows)?;
-                start = behind(next, place);
+                start = after;
             }
         }
     }
@@ -66,31 +68,32 @@ struct RightSide {
     index: Index,
 }
 
-// Adds what a left row gives: its pairs, or, where it has none and is kept, itself alone.
+// Adds what a left row gives, of which the index said this: its pairs, or, where it has none and is kept, itself alone.
 fn add_left(
     alloc: Global,
     left: &Row,
-    left_key: usize,
+    said: Option<Option<u32>>,
     rights: &Rows,
     side: &RightSide,
     rows: &mut Rows,
 ) -> Result<(), NoMemory>
-    ensures { IsIndex side.now.key (get same_key side.now.index.heads) side.now.index.next.items 0 rights.now
+    ensures { (left_key : ℕ) → said ≡ head_of left_key (get same_key side.now.index.heads) left.now
+        → IsIndex side.now.key (get same_key side.now.index.heads) side.now.index.next.items 0 rights.now
         → OnOk result (rows.new ≡ rows.old ++ (if has_key left_key left.now
         then or_alone side.now.keep side.now.width left.now (pairs_of left_key side.now.key (filter (has_key side.now.key) rights.now) left.now)
         else [])) }
 {
     keys_follow_equality();
-    let Some(key) = key_of_row(alloc, left, left_key)? else {
+    let Some(first) = said else {
         return Ok(());
     };
-    match side.index.heads.get(&key) {
+    match first {
         Some(head) => add_pairs(
             alloc,
             left,
             rights,
             side.key,
-            *head,
+            head,
             side.index.next.as_slice(),
             rows,
         ),
@@ -138,9 +141,11 @@ pub fn join(
         keep,
         index,
     };
+    let heads = heads_of(alloc, &side.index, left, left_key)?;
     let mut rows = Rows::new(alloc);
-    for row in left.as_slice() {
-        add_left(alloc, row, left_key, right, &side, &mut rows)?;
+    let all = left.as_slice();
+    for place in 0..left.len() {
+        add_left(alloc, &all[place], heads[place], right, &side, &mut rows)?;
     }
     Ok(Joined { rows, unhashable })
 }

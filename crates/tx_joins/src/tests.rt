@@ -1,6 +1,8 @@
 // Joins and `unique` over tables of plain text. Rows stand between ` / `, their cells between commas: an empty cell is None,
-// `(a:b)` a tuple and `[a:b]` a list of such cells. The left rows are those of operator 1, the right ones of operator 2.
-// A row of an answer is printed with its origin behind an `@`. What is expected follows from the definition, by hand.
+// `(a:b)` a tuple of such cells, `[]` a list, and what follows a quote a text whatever it looks like. The left rows of a join
+// are those of operator 2, the right ones of operator 1. A row of an answer is printed with its origin behind an `@`, its
+// texts without a quote. What is expected follows from the definition, by hand. Columns are numbers here, so columns of one
+// name on both sides are columns with the same cells.
 mod large;
 
 use crate::{FirstPlaces, Joined, join, unique};
@@ -13,16 +15,20 @@ fn part(row: &str, at: usize) -> &str {
     row.split(" | ").nth(at).unwrap_or("")
 }
 
+fn number_or_text(alloc: Global, text: &str) -> Result<Value, NoMemory> {
+    match text.parse::<i128>() {
+        Ok(number) => Ok(Value::Int(number)),
+        Err(_) => Ok(Value::Text(PyText::from_str(alloc, text.trim_start_matches('\''))?)),
+    }
+}
+
 fn scalar(alloc: Global, text: &str) -> Result<Value, NoMemory> {
     match text {
         "" => Ok(Value::Nil),
         "True" => Ok(Value::Truth(true)),
         "False" => Ok(Value::Truth(false)),
         "[]" => Ok(Value::List(Items::new(alloc))),
-        _ => match text.parse::<i128>() {
-            Ok(number) => Ok(Value::Int(number)),
-            Err(_) => Ok(Value::Text(PyText::from_str(alloc, text)?)),
-        },
+        _ => number_or_text(alloc, text),
     }
 }
 
@@ -149,16 +155,17 @@ fn printed(alloc: Global, joined: &Joined) -> Result<PyText, NoMemory> {
 
 // Left rows, right rows, the two keys and the width in three digits; the join, and then the left join.
 const JOINS: &str = "\
-1,7 / 2, / 3,9 | 7,p / ,q / 7,r | 102 | 1,7,p@1:1+2:1 / 1,7,r@1:1+2:3 / 2,,q@1:2+2:2 # | 1,7,p@1:1+2:1 / 1,7,r@1:1+2:3 / 2,,q@1:2+2:2 / 3,9,@1:3 #
-1 / True / 0 | 1,a / True,b / False,c | 002 | 1,a@1:1+2:1 / 1,b@1:1+2:2 / True,a@1:2+2:1 / True,b@1:2+2:2 / 0,c@1:3+2:3 # | 1,a@1:1+2:1 / 1,b@1:1+2:2 / True,a@1:2+2:1 / True,b@1:2+2:2 / 0,c@1:3+2:3 #
-k / [] / j | k,1 / [],2 / j,3 | 002 | k,1@1:1+2:1 / j,3@1:3+2:3 # 1:2 2:2 | k,1@1:1+2:1 / j,3@1:3+2:3 # 1:2 2:2
-(1:x) / (1:[]) / (1) | (True:x),a / (1:[]),b / ([]),c | 002 | (),a@1:1+2:1 # 1:2 2:2 2:3 | (),a@1:1+2:1 / (),@1:3 # 1:2 2:2 2:3
+1,7 / 2, / 3,9 | 7,p / ,q / 7,r | 102 | 1,7,p@2:1+1:1 / 1,7,r@2:1+1:3 / 2,,q@2:2+1:2 # | 1,7,p@2:1+1:1 / 1,7,r@2:1+1:3 / 2,,q@2:2+1:2 / 3,9,@2:3 #
+1 / True / 0 | 1,a / True,b / False,c | 002 | 1,a@2:1+1:1 / 1,b@2:1+1:2 / True,a@2:2+1:1 / True,b@2:2+1:2 / 0,c@2:3+1:3 # | 1,a@2:1+1:1 / 1,b@2:1+1:2 / True,a@2:2+1:1 / True,b@2:2+1:2 / 0,c@2:3+1:3 #
+k / [] / j | k,1 / [],2 / j,3 | 002 | k,1@2:1+1:1 / j,3@2:3+1:3 # 2:2 1:2 | k,1@2:1+1:1 / j,3@2:3+1:3 # 2:2 1:2
+(1:x) / (1:[]) / (1) | (True:x),a / (1:[]),b / ([]),c | 002 | (),a@2:1+1:1 # 2:2 1:2 1:3 | (),a@2:1+1:1 / (),@2:3 # 2:2 1:2 1:3
 - | 7,p | 002 |  # |  #
-1,a / 2,b | - | 003 |  # | 1,a,,@1:1 / 2,b,,@1:2 #
-a | a | 001 | a@1:1+2:1 # | a@1:1+2:1 #
-x | y | 001 |  # | x@1:1 #
-1,k | p,k,q / r,k,s | 113 | 1,k,p,q@1:1+2:1 / 1,k,r,s@1:1+2:2 # | 1,k,p,q@1:1+2:1 / 1,k,r,s@1:1+2:2 #
-x7,1 / x,2 | 1,x7 / 2,x | 012 | x7,1,1@1:1+2:1 / x,2,2@1:2+2:2 # | x7,1,1@1:1+2:1 / x,2,2@1:2+2:2 #
+1,a / 2,b | - | 003 |  # | 1,a,,@2:1 / 2,b,,@2:2 #
+a | a | 001 | a@2:1+1:1 # | a@2:1+1:1 #
+x | y | 001 |  # | x@2:1 #
+1,k | p,k,q / r,k,s | 113 | 1,k,p,q@2:1+1:1 / 1,k,r,s@2:1+1:2 # | 1,k,p,q@2:1+1:1 / 1,k,r,s@2:1+1:2 #
+1 / '1 / '01 / 'True / ' | '01,a / 'True,b / '1,c / 1,d / ,e / ',f | 002 | 1,d@2:1+1:4 / 1,c@2:2+1:3 / 01,a@2:3+1:1 / True,b@2:4+1:2 / ,f@2:5+1:6 # | 1,d@2:1+1:4 / 1,c@2:2+1:3 / 01,a@2:3+1:1 / True,b@2:4+1:2 / ,f@2:5+1:6 #
+x7,1 / x,2 | 1,x7 / 2,x | 012 | x7,1,1@2:1+1:1 / x,2,2@2:2+1:2 # | x7,1,1@2:1+1:1 / x,2,2@2:2+1:2 #
 ";
 
 // The digit at a place of a text.
@@ -171,8 +178,8 @@ fn digit(text: &str, at: usize) -> usize {
 }
 
 fn joined(alloc: Global, row: &str, keep: bool) -> Result<PyText, NoMemory> {
-    let left = rows_of(alloc, part(row, 0), 1)?;
-    let right = rows_of(alloc, part(row, 1), 2)?;
+    let left = rows_of(alloc, part(row, 0), 2)?;
+    let right = rows_of(alloc, part(row, 1), 1)?;
     let shape = part(row, 2);
     let answer = join(
         alloc,
@@ -199,7 +206,7 @@ fn rows_with_equal_keys_are_joined(rt: HostRuntime) {
         assert!(rt; joins(rt.alloc(), row) == Ok(true), "{row}");
         rows = rows.wrapping_add(1);
     }
-    assert!(rt; rows == 10);
+    assert!(rt; rows == 11);
 }
 
 // Rows, and those that are equal to none ahead.
@@ -210,6 +217,7 @@ True / 1 / 0 / False | True@1:1 / 0@1:3 #
 1,[] / 1,2 / [],2 / 1,2 | 1,2@1:2 # 1:1 1:3
 (1:x),1 / (True:x),True / (1:[]),1 | (),1@1:1 # 1:3
 a:b / a / a:b | a:b@1:1 / a@1:2 #
+1 / '1 / True / 'True / ',x / ,x / '1 | 1@1:1 / 1@1:2 / True@1:4 / ,x@1:5 / ,x@1:6 #
 - |  #
 ";
 
@@ -227,7 +235,7 @@ fn the_first_of_equal_rows_stays(rt: HostRuntime) {
         assert!(rt; firsts(rt.alloc(), row) == Ok(true), "{row}");
         rows = rows.wrapping_add(1);
     }
-    assert!(rt; rows == 7);
+    assert!(rt; rows == 8);
 }
 
 // Sees a cell's key at a place; its number and whether it is new, or none where it has no key.
@@ -249,7 +257,8 @@ fn keys_are_numbered(alloc: Global) -> Result<bool, NoMemory> {
     let first = sees(alloc, &mut seen, "b", 4)? == Some((0, true));
     let second = sees(alloc, &mut seen, "1", 5)? == Some((1, true));
     let again = sees(alloc, &mut seen, "True", 6)? == Some((1, false));
-    Ok(first && second && again && seen.len() == 2)
+    let places = seen.place(0) == Some(4) && seen.place(1) == Some(5) && seen.place(2) == None;
+    Ok(first && second && again && places && seen.len() == 2)
 }
 
 #[test]

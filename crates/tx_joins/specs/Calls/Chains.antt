@@ -33,6 +33,10 @@ IsChain next from start (place ∷ places) =
 abbrev pub IsIndex : ℕ → (KeyAtoms → Option ℕ) → List (Option ℕ) → ℕ → List Row → Type 0
 IsIndex column head next at rows = (key : KeyAtoms) → IsChain next at (head key) (places_of column key at rows)
 
+-- what an index says of a row: nothing where it has no key in the column, and else where the chain of its key begins
+abbrev pub head_of : ℕ → (KeyAtoms → Option ℕ) → Row → Option (Option ℕ)
+head_of column head row = if has_key column row then Some (head (key_of (cell_of column row))) else None
+
 -- the pair with the right row at a place
 abbrev pub pair_at : ℕ → Row → List Row → ℕ → List Row
 pair_at right_key left rights place = option_map_or (λ right. pair_of right_key left right ∷ []) (slice_get rights place) []

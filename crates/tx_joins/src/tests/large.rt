@@ -7,56 +7,69 @@ use tx_values::{Items, Row, Rows, Value};
 
 const MANY: u32 = 100_000;
 
-fn row_of(alloc: Global, number: u32, first: i128, second: i128) -> Result<Row, NoMemory> {
-    let mut cells = Items::new(alloc);
-    cells.push(Value::Int(first))?;
-    cells.push(Value::Int(second))?;
+fn row_of(alloc: Global, number: u32, cells: &[u32]) -> Result<Row, NoMemory> {
+    let mut items = Items::new(alloc);
+    for cell in cells {
+        items.push(Value::Int(i128::from(*cell)))?;
+    }
     let origin = origin_of(alloc, 1, number)?;
-    Ok(Row { cells, origin })
+    Ok(Row {
+        cells: items,
+        origin,
+    })
 }
 
-// Rows numbered from 0, each with its number and its number modulo so many.
-fn rising(alloc: Global, modulus: u32) -> Result<Rows, NoMemory> {
+// Rows of one cell, which counts from 1.
+fn rising(alloc: Global, many: u32) -> Result<Rows, NoMemory> {
     let mut rows = Rows::new(alloc);
-    for number in 0..MANY {
-        let second = number.checked_rem(modulus).unwrap_or(0);
-        rows.push(row_of(alloc, number, i128::from(number), i128::from(second))?)?;
+    for number in 0..many {
+        rows.push(row_of(alloc, number, &[number.wrapping_add(1)])?)?;
     }
     Ok(rows)
 }
 
-// The same rows from the last to the first.
-fn falling(alloc: Global) -> Result<Rows, NoMemory> {
+// Rows of two cells, which both count down to 1.
+fn falling(alloc: Global, many: u32) -> Result<Rows, NoMemory> {
     let mut rows = Rows::new(alloc);
-    for number in 0..MANY {
-        let back = MANY.saturating_sub(number);
-        rows.push(row_of(alloc, back, i128::from(back), i128::from(back))?)?;
+    for number in 0..many {
+        let back = many.wrapping_sub(number);
+        rows.push(row_of(alloc, number, &[back, back])?)?;
     }
     Ok(rows)
 }
 
-fn int_at(rows: &Rows, row: usize, column: usize) -> Option<i128> {
-    match rows.get(row)?.cells.get(column)? {
-        Value::Int(number) => Some(*number),
-        _ => None,
+fn holds(row: &Row, column: usize, number: i128) -> bool {
+    match row.cells.get(column) {
+        Some(Value::Int(found)) => *found == number,
+        _ => false,
     }
 }
 
-// Each left row but the first meets the one right row with its number, wherever that stands.
-fn many_are_joined(alloc: Global) -> Result<bool, NoMemory> {
-    let left = rising(alloc, 7)?;
-    let right = falling(alloc)?;
+// Whether the rows are so many, each with its number from 1 on in both cells.
+fn are_doubled(rows: &Rows, many: usize) -> bool {
+    let mut number = 0i128;
+    for row in rows.as_slice() {
+        number = number.wrapping_add(1);
+        if !holds(row, 0, number) || !holds(row, 1, number) {
+            return false;
+        }
+    }
+    rows.len() == many
+}
+
+// Each left row meets the one right row with its number, wherever that stands.
+fn many_are_joined(alloc: Global, many: u32) -> Result<bool, NoMemory> {
+    let left = rising(alloc, many)?;
+    let right = falling(alloc, many)?;
     let answer = join(alloc, &left, &right, 0, 0, false, 2)?;
-    let ends = int_at(&answer.rows, 0, 2) == Some(1)
-        && int_at(&answer.rows, 99_998, 2) == Some(99_999);
-    Ok(ends && answer.rows.len() == 99_999 && answer.unhashable.len() == 0)
+    Ok(are_doubled(&answer.rows, many as usize) && answer.unhashable.len() == 0)
 }
 
 // Rows whose first cells are all the same, and whose second ones go round from 0 to 999.
 fn alike(alloc: Global) -> Result<Rows, NoMemory> {
     let mut rows = Rows::new(alloc);
     for number in 0..MANY {
-        rows.push(row_of(alloc, number, 5, i128::from(number % 1000))?)?;
+        rows.push(row_of(alloc, number, &[5, number % 1000])?)?;
     }
     Ok(rows)
 }
@@ -65,15 +78,21 @@ fn alike(alloc: Global) -> Result<Rows, NoMemory> {
 fn few_are_first(alloc: Global) -> Result<bool, NoMemory> {
     let rows = alike(alloc)?;
     let answer = unique(alloc, &rows)?;
-    Ok(answer.rows.len() == 1000 && int_at(&answer.rows, 999, 1) == Some(999))
+    let ends = match answer.rows.get(999) {
+        Some(last) => holds(last, 1, 999),
+        None => false,
+    };
+    Ok(ends && answer.rows.len() == 1000)
 }
 
 #[test]
-fn a_hundred_thousand_rows_are_joined(rt: HostRuntime) {
-    assert!(rt; many_are_joined(rt.alloc()) == Ok(true));
+fn many_rows_are_joined(rt: HostRuntime) {
+    for many in [30_000, MANY] {
+        assert!(rt; many_are_joined(rt.alloc(), many) == Ok(true), "{many}");
+    }
 }
 
 #[test]
-fn a_hundred_thousand_rows_have_their_firsts(rt: HostRuntime) {
+fn many_rows_have_their_firsts(rt: HostRuntime) {
     assert!(rt; few_are_first(rt.alloc()) == Ok(true));
 }

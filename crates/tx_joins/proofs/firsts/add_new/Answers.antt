@@ -1,9 +1,7 @@
 use Rattle.std.proofs.Common.{◌≡◌, ◌++◌, ◌∷◌, [], List, Bool, true, false, if◌then◌else◌, append-nil, sym, ap, subst, ◌∙◌}
 use Rattle.std.proofs.lemmas.Result.{on_ok_weaker}
-use Rattle.std.specs.List.{list_any}
 use Rattle.tx_values.specs.declared.row.Row.{Row}
 use Rattle.tx_joins.specs.FirstPlaces.{FirstPlace, was_seen}
-use Rattle.tx_joins.specs.Unique.{same_cells}
 use Rattle.tx_joins.specs.Calls.Seen.{AreSeen}
 use Rattle.tx_joins.proofs.SeenRows.{new_of, seen-is, seen-more, seen_of}
 use Rattle.tx_joins.proofs.firsts.add_new.Goals as goal

@@ -1,8 +1,7 @@
-use Rattle.std.proofs.Common.{◌≡◌, ◌+◌, ◌∷◌, ℕ, List, Option, Some, true, false, cond, slice_set, subst, sym, ap, ◌∙◌}
+use Rattle.std.proofs.Common.{◌≡◌, ◌∷◌, ℕ, List, Option, Some, cond, slice_set, subst, sym, ap, ◌∙◌}
 use Rattle.std.specs.HashMap.{get}
-use Rattle.tx_values.specs.declared.row.Row.{Row}
 use Rattle.tx_values.specs.Keys.{key_of, same_key}
-use Rattle.tx_joins.specs.Join.{cell_of, has_key}
+use Rattle.tx_joins.specs.Join.{cell_of}
 use Rattle.tx_joins.specs.Calls.Chains.{IsIndex, KeyAtoms}
 use Rattle.tx_joins.proofs.Chains.{keyless-in-front, keyed-in-front}
 use Rattle.tx_joins.proofs.index.add_row.Goals as goal

@@ -1,15 +1,10 @@
-use Rattle.std.proofs.Common.{◌≡◌, ◌+◌, ◌-◌, ◌<◌, ◌∷◌, ℕ, List, get_or, drop, length, add-one, sym, subst, ap, ◌∙◌, arith}
-use Rattle.std.proofs.Math.Seq.{drop-cons}
+use Rattle.std.proofs.Common.{◌≡◌, ◌+◌, ◌-◌, ◌<◌, ◌∷◌, ℕ, List, drop, length, sym, subst, ap, ◌∙◌, arith}
 use Rattle.std.specs.HashMap.{get}
 use Rattle.tx_values.specs.declared.row.Row.{Row}
 use Rattle.tx_values.specs.Keys.{same_key}
 use Rattle.tx_joins.specs.Calls.Chains.{IsIndex}
+use Rattle.tx_joins.proofs.Rows.{split_at}
 use Rattle.tx_joins.proofs.index.index_of.Goals as goal
-
--- the row at a place in front of those behind it
-split_at : (all : List Row) (place : ℕ) (row : Row) → place < length all → row ≡ get_or all place row → row ∷ drop (place + 1) all ≡ drop place all
-split_at all place row within at =
-    ap (λ (r : Row). r ∷ drop (place + 1) all) at ∙ ap (λ (n : ℕ). get_or all place row ∷ drop n all) (add-one place) ∙ sym (drop-cons all place row within)
 
 pub loop-done-preserved : goal.loop-done-preserved
 loop-done-preserved c =

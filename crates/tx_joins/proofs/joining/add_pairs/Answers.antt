@@ -1,7 +1,7 @@
-use Rattle.std.proofs.Common.{◌≡◌, ◌+◌, ◌++◌, ℕ, List, Option, [], ◌∷◌, Some, None, append-nil, append_assoc, sym, ap, subst, ◌∙◌, arith}
+use Rattle.std.proofs.Common.{◌≡◌, ◌+◌, ◌++◌, ℕ, List, Option, [], append-nil, append_assoc, sym, ap, subst, ◌∙◌}
 use Rattle.std.specs.List.{flat_map}
 use Rattle.tx_values.specs.declared.row.Row.{Row}
-use Rattle.tx_joins.specs.Calls.Chains.{IsChain, behind, pair_at}
+use Rattle.tx_joins.specs.Calls.Chains.{IsChain, pair_at}
 use Rattle.tx_joins.proofs.Chains.{Begins, begins, ended, past}
 use Rattle.tx_joins.proofs.joining.add_pairs.Goals as goal
 
@@ -21,7 +21,7 @@ loop-turn-preserved c places chain =
     (subst (λ (s : Option ℕ). IsChain c.args.next.now c.loop-turn._turn s told.0) c.in-Some.is told.1.0) in (
       going.rest,
       (
-        subst (λ (s : Option ℕ). IsChain c.args.next.now (c.loop-turn._turn + 1) s going.rest) (sym c.behind-start.ensures) going.chain,
+        subst (λ (s : Option ℕ). IsChain c.args.next.now (c.loop-turn._turn + 1) s going.rest) (sym c.behind-after.ensures) going.chain,
         ap (λ (rs : List Row). rs ++ flat_map f going.rest) c.in_ok-add_pair-in-Some.ensures
             ∙ append_assoc c.loop-turn.rows (f c.in-Some.place) (flat_map f going.rest)
             ∙ ap (λ (ps : List ℕ). c.loop-turn.rows ++ flat_map f ps) (sym going.same) ∙ told.1.1,

@@ -1,4 +1,4 @@
-use Rattle.std.proofs.Common.{◌≡◌, ◌++◌, ◌-◌, replicate}
+use Rattle.std.proofs.Common.{◌≡◌, ◌++◌, replicate}
 use Rattle.tx_values.specs.declared.value.Value.TheVariants.{Nil}
 use Rattle.tx_joins.proofs.row_copies.alone_row.Given as goal
 

@@ -1,7 +1,5 @@
-use Rattle.std.proofs.Common.{◌≡◌, ◌++◌, ℕ, Bool, true, false, List, ◌∷◌, [], Option, None, Some, is_some, if◌then◌else◌, length, unwrap_or, position, not, refl, sym, ap, subst, ◌∙◌}
+use Rattle.std.proofs.Common.{◌≡◌, ◌++◌, ℕ, Bool, true, false, List, ◌∷◌, [], Option, if◌then◌else◌, length, unwrap_or, not, sym, ap, subst, ◌∙◌}
 use Rattle.std.proofs.lemmas.Map.Made.{is_some-lookup}
-use Rattle.std.specs.Map.{keys_of}
-use Rattle.tx_values.specs.declared.key.Atom.{Atom}
 use Rattle.tx_values.specs.Keys.{same_key}
 use Rattle.tx_joins.specs.FirstPlaces.{FirstPlace, number_of_key, seen_at, was_seen}
 use Rattle.indexmap.proofs.CallerLemmas.{insert_entry-new}
