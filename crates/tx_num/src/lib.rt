@@ -3,12 +3,14 @@
 
 mod arithmetic;
 mod division;
+mod place;
 mod print;
 mod read;
 mod reading;
 
 pub use arithmetic::{add, mul, neg, sub};
 pub use division::{Division, floor_div, floor_division_is_the_only_one, floor_mod};
+pub use place::{place_of, places_are_as_in_python, slice_start, slice_stop, times_of};
 pub use print::{print_int, printed_ints_read_back};
 pub use read::{IntRead, read_int};
 
