@@ -46,6 +46,13 @@ pub(crate) fn copies_of(alloc: Global, items: &[Value]) -> Result<Vec<Value>, No
     Ok(copies)
 }
 
+/// The same values, made anew, in a list that takes exactly the room that they need.
+pub fn copy_items(alloc: Global, items: &[Value]) -> Result<Items, NoMemory>
+    ensures { IfOk result (λ made. made ≡ items.now) }
+{
+    Ok(Items::from_vec(copies_of(alloc, items)?))
+}
+
 #[cycle(copy)]
 fn copies_of_pairs(alloc: Global, pairs: &[(Value, Value)]) -> Result<Vec<(Value, Value)>, NoMemory>
     ensures same { IfOk result (λ copies. copies.items ≡ pairs.now) }

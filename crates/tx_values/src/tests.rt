@@ -3,6 +3,7 @@
 // limits, which are rules of the language alone.
 mod keys;
 mod limits;
+mod lookup;
 mod order;
 mod rows;
 mod same;
