@@ -2,7 +2,7 @@ use Rattle.std.proofs.Common.{◌≡◌, ℕ, ◌+◌, ◌≤◌, List, ◌++◌
 use Rattle.std.proofs.lemmas.List.{length-take-le}
 use Rattle.std.proofs.Math.Seq.{take-add}
 use Rattle.tx_place.specs.Place.{PlaceState, Took}
-use Rattle.tx_place.specs.Whole.{IsAsBefore, IsFrontOf}
+use Rattle.tx_place.specs.Calls.Reading.{IsAsBefore, IsFrontOf}
 
 -- one piece more
 pub length-more : (all piece more : List ℕ) (n : ℕ) → n ≤ length piece → more ≡ all ++ take n piece → length more ≡ length all + n

@@ -10,3 +10,5 @@ pub mod Whole
 pub mod Memory
 -- The real place and the real console: they tell nothing of what they hold, and say of a stream what the kit knows of it.
 pub mod Real
+-- What only the contracts of calls inside the crate need.
+pub mod Calls

@@ -1,5 +1,5 @@
 -- Files as a list of pairs of a name and bytes, and a place and a console in memory.
-use Rattle.std.specs.Prelude.{◌≡◌, ◌⊎◌, ◌==◌, ℕ, zero, suc, Bool, true, false, List, [], ◌∷◌, ◌++◌, Option, Some, None, if◌then◌else◌}
+use Rattle.std.specs.Prelude.{◌≡◌, ◌⊎◌, ◌==◌, ℕ, Bool, true, List, [], ◌∷◌, Option, Some, None, if◌then◌else◌}
 use Rattle.std.specs.List.{list_any}
 use Rattle.std.specs.Str.{bytes_eq}
 use Rattle.tx_place.specs.Count.{next_count}
@@ -10,34 +10,6 @@ use Rattle.tx_place.specs.Console.{ConsoleState}
 abbrev pub held_by : List (List ℕ × List ℕ) → Held
 held_by [] name = None
 held_by (file ∷ files) name = if bytes_eq name file.0 then Some file.1 else held_by files name
-
--- the files with these bytes under this name: in the place of the first of that name, or behind the others
-abbrev pub put : List (List ℕ × List ℕ) → List ℕ → List ℕ → List (List ℕ × List ℕ)
-put [] name bytes = (name, bytes) ∷ []
-put (file ∷ files) name bytes = if bytes_eq name file.0 then (file.0, bytes) ∷ files else file ∷ put files name bytes
-
--- the files with these bytes at the end of the first of that name
-abbrev pub added : List (List ℕ × List ℕ) → List ℕ → List ℕ → List (List ℕ × List ℕ)
-added [] name bytes = []
-added (file ∷ files) name bytes = if bytes_eq name file.0 then (file.0, file.1 ++ bytes) ∷ files else file ∷ added files name bytes
-
--- the first file of that name stands there
-abbrev pub IsAt : List (List ℕ × List ℕ) → List ℕ → ℕ → Type 0
-IsAt [] name i = ⊥
-IsAt (file ∷ files) name zero = bytes_eq name file.0 ≡ true
-IsAt (file ∷ files) name (suc i) = (bytes_eq name file.0 ≡ false) × IsAt files name i
-
--- the files with these bytes in one place
-abbrev pub replaced : List (List ℕ × List ℕ) → ℕ → List ℕ → List (List ℕ × List ℕ)
-replaced [] i bytes = []
-replaced (file ∷ files) zero bytes = (file.0, bytes) ∷ files
-replaced (file ∷ files) (suc i) bytes = file ∷ replaced files i bytes
-
--- the files with these bytes behind those in one place
-abbrev pub extended : List (List ℕ × List ℕ) → ℕ → List ℕ → List (List ℕ × List ℕ)
-extended [] i bytes = []
-extended (file ∷ files) zero bytes = (file.0, file.1 ++ bytes) ∷ files
-extended (file ∷ files) (suc i) bytes = file ∷ extended files i bytes
 
 -- a place in memory
 pub record MemoryFiles : Type 0 where

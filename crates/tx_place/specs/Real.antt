@@ -1,6 +1,5 @@
 -- The real place and the real console: they tell nothing of what they hold, and say of a stream what the kit knows of it.
-use Rattle.std.specs.Prelude.{◌≡◌, ℕ, List, [], false, Option, Some, None, IfSome}
-use Rattle.std.specs.Io.KnownBytes.{Consumes}
+use Rattle.std.specs.Prelude.{ℕ, List, [], false, Option, None}
 use Rattle.tx_place.specs.Place.{PlaceState}
 use Rattle.tx_place.specs.Console.{ConsoleState}
 
@@ -26,8 +25,3 @@ silent_console say_faults complain_faults = record {
   complain_faults = complain_faults;
   memory_refusals = 0;
 }
-
--- a stream was moved to a place, and there had these bytes next: `position` and `remaining` are what it tells of itself
-abbrev pub GaveFrom : {F : Type 0} → (F → Option ℕ) → (F → Option (List ℕ)) → ℕ → F → F → List ℕ → Type 0
-GaveFrom {F} position remaining at old new bytes =
-    (moved : F) × (IfSome (position old) (λ _. position moved ≡ Some at)) × Consumes (remaining moved) (remaining new) bytes

@@ -3,7 +3,8 @@ ghost use Rattle.std.specs.Prelude.{◌≡◌, ◌≤◌, ◌<◌, ◌⊎◌, �
 ghost use Rattle.std.specs.Str.{chars, bytes_eq};
 ghost use Rattle.tx_place.specs.Place.{ReadsAt, Creates, Appends, TookBytes, with_file, with_added};
 ghost use Rattle.tx_place.specs.Count.{next_count};
-ghost use Rattle.tx_place.specs.Memory.{held_by, put, added, replaced, extended, IsAt, is_failing};
+ghost use Rattle.tx_place.specs.Memory.{held_by, is_failing};
+ghost use Rattle.tx_place.specs.Calls.Files.{put, added, replaced, extended, IsAt};
 
 use crate::{CallError, Place};
 use std::alloc::Global;

@@ -3,7 +3,8 @@ ghost use Rattle.std.specs.Prelude.{◌≡◌, ◌≤◌, ◌<◌, IfOk, IfSome,
 ghost use Rattle.std.specs.Str.{chars};
 ghost use Rattle.std.specs.Io.KnownBytes as known;
 ghost use Rattle.tx_place.specs.Place.{ReadsAt, Creates, Appends};
-ghost use Rattle.tx_place.specs.Real.{silent_place, GaveFrom};
+ghost use Rattle.tx_place.specs.Real.{silent_place};
+ghost use Rattle.tx_place.specs.Calls.Reading.{GaveFrom};
 
 use crate::{CallError, Place};
 use std::alloc::Global;

@@ -1,7 +1,7 @@
 use Rattle.std.proofs.Common.{◌∙◌, ◌≤◌, length, arith, subst, ℕ}
 use Rattle.std.specs.Str.{chars}
 use Rattle.tx_place.specs.Place.{Held, Took}
-use Rattle.tx_place.specs.Whole.{IsAsBefore}
+use Rattle.tx_place.specs.Calls.Reading.{IsAsBefore}
 use Rattle.tx_place.proofs.Fronts.{IsFrontOf-more, IsAsBefore-more, length-more}
 use Rattle.tx_place.proofs.whole.read_all.Goals as goal
 

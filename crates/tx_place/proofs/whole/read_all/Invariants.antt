@@ -1,6 +1,6 @@
 use Rattle.std.proofs.Common.{◌≡◌, ◌≤◌, ◌-◌, length, true}
 use Rattle.std.specs.Str.{chars}
-use Rattle.tx_place.specs.Whole.{IsAsBefore, IsFrontOf}
+use Rattle.tx_place.specs.Calls.Reading.{IsAsBefore, IsFrontOf}
 use Rattle.tx_place.proofs.whole.read_all.Given as goal
 
 abbrev pub invariant-loop-taken : goal.invariant-loop-taken
