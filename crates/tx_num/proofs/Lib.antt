@@ -4,3 +4,4 @@ pub mod Ends
 pub mod Groups
 pub mod ByCharacter
 pub mod Plain
+pub mod Ranges
