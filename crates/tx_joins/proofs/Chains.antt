@@ -1,12 +1,13 @@
 -- Chains: a store ahead of a chain leaves it as it is, and an index takes one more row in front.
-use Rattle.std.proofs.Common.{◌≡◌, ◌≢◌, ◌<◌, ◌≤◌, ◌+◌, ◌&&◌, ℕ, Bool, true, false, cond, List, [], ◌∷◌, Option, None, Some, if◌then◌else◌, length, slice_set, refl, sym, ap, subst, ◌∙◌, arith}
+use Rattle.std.proofs.Common.{◌≡◌, ◌≢◌, ◌<◌, ◌≤◌, ◌+◌, ◌++◌, ◌&&◌, ℕ, suc, Bool, true, false, cond, List, [], ◌∷◌, Option, None, Some, if◌then◌else◌, drop, length, map, slice_set, take, refl, sym, ap, subst, ◌∙◌, arith}
 use Rattle.std.proofs.lemmas.List.{length-set, get_or-set_same, get_or-set_other}
 use Rattle.std.proofs.lemmas.Option.{unwrap_or-slice_get, none-some}
 use Rattle.std.specs.Prelude.{◌↔◌}
+use Rattle.std.specs.Option.{option_map}
 use Rattle.tx_values.specs.declared.row.Row.{Row}
 use Rattle.tx_values.specs.Keys.{key_of, same_key}
 use Rattle.tx_joins.specs.Join.{cell_of, has_key}
-use Rattle.tx_joins.specs.Calls.Chains.{KeyAtoms, has_this_key, places_of, behind, IsChain, IsIndex, head_of}
+use Rattle.tx_joins.specs.Calls.Chains.{KeyAtoms, has_this_key, places_of, behind, IsChain, IsIndex, head_of, row_key}
 
 -- ---- chains
 
@@ -120,14 +121,58 @@ module _ (same : (a b : KeyAtoms) → (same_key a b ≡ true) ↔ (a ≡ b)) whe
           (sym (head key ∙ ap (λ (b : Bool). cond b (Some at) (old key)) e))
           (lower stored at (at + 1) (old key) (places_of column key (at + 1) rows) (omega arith) rest))
 
--- ---- what an index says of a row
+-- ---- the key of a row, and what an index says of it
+
+pub row_key-none : (column : ℕ) (row : Row) → None ≡ row_key column row → has_key column row ≡ false
+row_key-none column row told = by (has_key column row) told
+  where
+    by : (b : Bool) → None ≡ (if b then Some (key_of (cell_of column row)) else None) → b ≡ false
+    by true h = absurd (none-some (key_of (cell_of column row)) h)
+    by false h = refl
+
+pub row_key-some : (column : ℕ) (row : Row) (key : KeyAtoms) → Some key ≡ row_key column row
+    → (has_key column row ≡ true) × (key ≡ key_of (cell_of column row))
+row_key-some column row key told = by (has_key column row) told
+  where
+    by : (b : Bool) → Some key ≡ (if b then Some (key_of (cell_of column row)) else None) → (b ≡ true) × (key ≡ key_of (cell_of column row))
+    by true h = (refl, cc)
+    by false h = absurd (none-some key (sym h))
 
 -- where it says something, the row has a key, and it says where the chain of that key begins
 pub head_of-some : (column : ℕ) (head : KeyAtoms → Option ℕ) (row : Row) (first : Option ℕ) → Some first ≡ head_of column head row
     → (has_key column row ≡ true) × (first ≡ head (key_of (cell_of column row)))
 head_of-some column head row first told = by (has_key column row) refl told
   where
-    by : (b : Bool) → has_key column row ≡ b → Some first ≡ (if b then Some (head (key_of (cell_of column row))) else None)
+    by : (b : Bool) → has_key column row ≡ b → Some first ≡ option_map head (if b then Some (key_of (cell_of column row)) else None)
         → (has_key column row ≡ true) × (first ≡ head (key_of (cell_of column row)))
     by true e h = (e, cc)
     by false e h = absurd (none-some first (sym h))
+
+-- what it says of the keys is what it says of the rows
+pub heads-of_keys : (column : ℕ) (head : KeyAtoms → Option ℕ) (rows : List Row)
+    → map (option_map head) (map (row_key column) rows) ≡ map (head_of column head) rows
+heads-of_keys column head [] = refl
+heads-of_keys column head (row ∷ rows) = ap (λ (hs : List (Option (Option ℕ))). head_of column head row ∷ hs) (heads-of_keys column head rows)
+
+-- the last of the keys of some rows is that of the row behind them
+pub record IsLast (column : ℕ) (rows : List Row) (keys : List (Option KeyAtoms)) (key : Option KeyAtoms) : Type 0 where
+  pub row : Row
+  pub is : key ≡ row_key column row
+  pub rest : drop (length keys) rows ≡ row ∷ drop (suc (length keys)) rows
+  pub front : keys ≡ take (length keys) (map (row_key column) rows)
+
+pub is_last : (column : ℕ) (rows : List Row) (keys : List (Option KeyAtoms)) (key : Option KeyAtoms)
+    → keys ++ key ∷ [] ≡ take (length (keys ++ key ∷ [])) (map (row_key column) rows) → IsLast column rows keys key
+is_last column [] [] key e = cc
+is_last column (row ∷ rows) [] key e = record { row = row; is = cc; rest = refl; front = refl }
+is_last column [] (first ∷ keys) key e = cc
+is_last column (row ∷ rows) (first ∷ keys) key e =
+    let same : first ≡ row_key column row = cc in
+    let others : keys ++ key ∷ [] ≡ take (length (keys ++ key ∷ [])) (map (row_key column) rows) = cc in
+    let last : IsLast column rows keys key = is_last column rows keys key others in
+    record {
+      row = last.row;
+      is = last.is;
+      rest = last.rest;
+      front = ap (λ (k : Option KeyAtoms). k ∷ keys) same ∙ ap (λ (ks : List (Option KeyAtoms)). row_key column row ∷ ks) last.front;
+    }
