@@ -1,22 +1,20 @@
 -- Quotient and remainder of values.
-use Rattle.std.proofs.Common.{◌≡◌, ◌≢◌, zero, suc, ℤ, pos, negsuc, Bool, true, false, Option, Some, None, Ok, Err, if◌then◌else◌, refl, sym, ap, subst, ◌∙◌}
+use Rattle.std.proofs.Common.{◌≡◌, ◌≢◌, zero, suc, ℤ, pos, negsuc, Bool, true, false, Some, None, Ok, if◌then◌else◌, refl, sym, ap, subst, ◌∙◌}
 use Rattle.std.specs.Prelude.{◌+ℤ◌, ◌*ℤ◌}
 use Rattle.std.specs.Ordering.{int_eq}
 use Rattle.std.proofs.lemmas.Bool.Decides.{Decides-int_eq}
 use Rattle.tx_base.specs.Width.{is_128_bit}
-use Rattle.tx_base.specs.declared.class.Class.TheVariants.{OverflowError}
 use Rattle.tx_num.specs.Number.{floor_quotient, floor_remainder, kept, value_or_past}
-use Rattle.tx_num.specs.Laws.{FloorLaw, IsFloor}
+use Rattle.tx_num.specs.Laws.{FloorLaw}
 use Rattle.tx_num.specs.declared.division.Division.TheVariants as division
-use Rattle.tx_tree.specs.declared.operator.BinaryOp.TheVariants.{Add, Mul, FloorDiv, Mod}
-use Rattle.tx_values.specs.declared.value.Value.{Value, Int, out-Value, roll-Value, roll-out-Value, map-Value, fold-roll-Value}
+use Rattle.tx_values.specs.declared.value.Value.{Value, Int, out-Value, roll-out-Value, map-Value, fold-roll-Value}
 use Rattle.tx_values.specs.declared.value.Value.TheVariants.{outs-Int}
 use Rattle.tx_values.specs.declared.value.Value.TheOpen.{Value-F}
 use Rattle.tx_values.specs.declared.value.Value.TheOpen as v
-use Rattle.tx_values.specs.Equality.{Test, equal, equal_open, number_of}
+use Rattle.tx_values.specs.Equality.{Test, equal, equal_open}
 use Rattle.tx_values.specs.Operand.{Operand, number, operand, operand_open}
 use Rattle.tx_ops.specs.Overflow.{int_or_overflow}
-use Rattle.tx_ops.specs.Binary.{binary_of, divided, product, quotient, remainder, sum}
+use Rattle.tx_ops.specs.Binary.{divided, product, quotient, remainder, sum}
 use Rattle.tx_ops.specs.Laws.{DivisionLaw, IdentityLaw, IsDivision}
 use Rattle.tx_ops.proofs.ValidityLemmas.{ok_same}
 

@@ -1,28 +1,25 @@
 -- Sequences that come apart, parts of texts, and `<=`.
-use Rattle.std.proofs.Common.{◌≡◌, ◌⊎◌, inl, inr, ◌≤◌, ◌<◌, ◌-◌, ◌++◌, ◌||◌, ℕ, zero, suc, ℤ, pos, Bool, true, false, not, List, [], ◌∷◌, Option, Some, None, Ok, Err, length, take, drop, is_some, unwrap_or, if◌then◌else◌, refl, sym, ap, subst, ◌∙◌, arith, length-append}
+use Rattle.std.proofs.Common.{◌≡◌, inl, inr, ◌≤◌, ◌-◌, ◌++◌, ◌||◌, ℕ, ℤ, pos, Bool, true, false, not, List, [], ◌∷◌, Option, Some, None, Ok, Err, length, take, drop, is_some, unwrap_or, refl, sym, ap, subst, ◌∙◌, arith, length-append}
 use Rattle.std.specs.Prelude.{◌↔◌, int_lt}
 use Rattle.std.specs.Int.{int_min}
 use Rattle.std.proofs.lemmas.Bool.{true≢false}
 use Rattle.std.proofs.lemmas.Bool.Decides.{nat_tests}
-use Rattle.tx_base.specs.declared.class.Class.{Class}
-use Rattle.tx_num.specs.Place.{sliced, start_of, stop_of}
+use Rattle.tx_num.specs.Place.{sliced}
 use Rattle.tx_text.specs.Text.{first_place}
 use Rattle.tx_text.specs.Laws.{IsLeastPlace, PlacesLaw, StandsAt, StandsNot}
-use Rattle.tx_tree.specs.declared.operator.BinaryOp.TheVariants.{Add}
-use Rattle.tx_tree.specs.declared.operator.CompareOp.TheVariants.{In, Less, LessEqual}
-use Rattle.tx_values.specs.declared.value.Value.{Value, Int, Text, Tuple, List as Listed, out-Value, roll-Value, roll-out-Value}
-use Rattle.tx_values.specs.declared.value.Value.TheVariants.{outs-Int, outs-Text, outs-Tuple, outs-List, rolls-Text, rolls-Tuple, rolls-List}
+use Rattle.tx_tree.specs.declared.operator.CompareOp.TheVariants.{In}
+use Rattle.tx_values.specs.declared.value.Value.{Value, Text, Tuple, List as Listed, out-Value, roll-Value, roll-out-Value}
+use Rattle.tx_values.specs.declared.value.Value.TheVariants.{outs-Int, rolls-Text, rolls-Tuple, rolls-List}
 use Rattle.tx_values.specs.declared.value.Value.TheOpen.{Value-F}
 use Rattle.tx_values.specs.declared.value.Value.TheOpen as v
 use Rattle.tx_values.specs.Answer.{Answer, ◌>>=◌}
 use Rattle.tx_values.specs.Equality.{equal}
 use Rattle.tx_values.specs.Laws.{Compared, OneOf, TrichotomyLaw}
 use Rattle.tx_values.specs.Operand.{Operand, number, text, tuple, list, dictionary, none, operand, operand_open}
-use Rattle.tx_values.specs.Order.{less}
-use Rattle.tx_ops.specs.Binary.{binary_of, sum}
+use Rattle.tx_ops.specs.Binary.{sum}
 use Rattle.tx_ops.specs.Compare.{compare_of, holds, is_part, opposite}
 use Rattle.tx_ops.specs.Slice.{bound_in, bound_of, part_between, slice_in, slice_of}
-use Rattle.tx_ops.specs.Laws.{ComesApart, IsPart, JoinedLaw, LessEqualLaw, PartLaw, bound, count_of}
+use Rattle.tx_ops.specs.Laws.{ComesApart, JoinedLaw, LessEqualLaw, PartLaw, bound, count_of}
 use Rattle.tx_ops.proofs.SliceLemmas.{sliced_is}
 use Rattle.tx_ops.proofs.Tables.{out_list, out_text, out_tuple}
 use Rattle.tx_ops.proofs.ValidityLemmas.{made_is}

@@ -1,5 +1,5 @@
 -- Weight and depth of sequences that are joined and repeated.
-use Rattle.std.proofs.Common.{◌≡◌, ◌≢◌, ◌+◌, ◌*◌, ◌≤◌, ◌<◌, ◌++◌, ◌&&◌, ℕ, zero, suc, max, Bool, true, false, List, [], ◌∷◌, Ok, Err, map, length, nat_le, if◌then◌else◌, refl, sym, ap, ◌∙◌, arith}
+use Rattle.std.proofs.Common.{◌≡◌, ◌+◌, ◌*◌, ◌≤◌, ◌++◌, ◌&&◌, ℕ, zero, suc, max, Bool, true, false, List, [], ◌∷◌, Ok, Err, map, length, nat_le, if◌then◌else◌, refl, sym, ap, ◌∙◌, arith}
 use Rattle.std.proofs.lemmas.Bool.Decides.{nat_tests}
 use Rattle.tx_base.specs.declared.class.Class.TheVariants.{ProfileError}
 use Rattle.tx_values.specs.declared.value.Value.{Value, Text, Tuple, List as Listed, fold-roll-Value}

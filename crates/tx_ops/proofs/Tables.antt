@@ -1,19 +1,16 @@
 -- Sequences that are joined and repeated, with the test ahead of the copying.
-use Rattle.std.proofs.Common.{◌≡◌, ℤ, Bool, true, false, Option, Some, None, List, ◌++◌, Result, Ok, Err, if◌then◌else◌, refl, sym, ap, ◌∙◌}
-use Rattle.std.specs.Prelude.{◌+ℤ◌, ◌-ℤ◌, ◌*ℤ◌, ok_or, ℕ}
-use Rattle.tx_base.specs.declared.class.Class.TheVariants.{TypeError, OverflowError, ProfileError}
-use Rattle.tx_num.specs.Number.{floor_division, floor_modulo, kept}
+use Rattle.std.proofs.Common.{◌≡◌, ℤ, Bool, true, false, Option, Some, None, List, ◌++◌, Ok, Err, if◌then◌else◌, refl, sym, ap, ◌∙◌}
+use Rattle.std.specs.Prelude.{ok_or, ℕ}
+use Rattle.tx_base.specs.declared.class.Class.TheVariants.{OverflowError, ProfileError}
 use Rattle.tx_num.specs.Place.{times_of}
 use Rattle.tx_values.specs.declared.value.Value.{Value, Text, Tuple, List as Listed}
 use Rattle.tx_values.specs.declared.value.Value.TheVariants.{outs-Text, outs-Tuple, outs-List}
 use Rattle.tx_values.specs.Limits.{in_limits, made}
 use Rattle.tx_values.specs.Answer.{Answer, ◌>>=◌}
-use Rattle.tx_values.specs.Operand.{Operand, number, text, tuple, list, dictionary, none, operand, operand_open}
-use Rattle.tx_ops.specs.Overflow.{int_or_overflow}
-use Rattle.tx_ops.specs.Binary.{copies, difference, divided, product, quotient, remainder, repetition, sum}
-use Rattle.tx_ops.specs.Calls.Numbers.{number_in, numbers_in}
-use Rattle.tx_ops.specs.Calls.Sequences.{joined, not_divided, repeated_by}
-use Rattle.tx_ops.specs.Calls.Fits.{both_fit, both_items, copies_fit, repeated_items}
+use Rattle.tx_values.specs.Operand.{Operand, text, tuple, list, operand, operand_open}
+use Rattle.tx_ops.specs.Binary.{copies, repetition}
+use Rattle.tx_ops.specs.Calls.Sequences.{joined, repeated_by}
+use Rattle.tx_ops.specs.Calls.Fits.{both_items, copies_fit, repeated_items}
 use Rattle.tx_ops.proofs.LimitLemmas.{both_fit_tuple, both_fit_list, copies_fit_tuple, copies_fit_list}
 
 -- ---- sequences of items, with the test ahead of the copying

@@ -1,37 +1,36 @@
 -- What an operation makes of valid values is valid.
-use Rattle.std.proofs.Common.{◌≡◌, ◌≢◌, ◌+◌, ◌-◌, ◌≤◌, ◌<◌, ◌&&◌, ◌++◌, ℕ, zero, suc, max, ℤ, pos, negsuc, Bool, true, false, List, [], ◌∷◌, Option, Some, None, Result, Ok, Err, map, length, nat_le, nat_lt, slice_get, if◌then◌else◌, refl, sym, ap, subst, ◌∙◌, arith}
-use Rattle.std.specs.Prelude.{◌+ℤ◌, ◌-ℤ◌, ◌*ℤ◌, ◌<ℤ◌, ◌≤ℤ◌, neg_ℤ, ok_or}
+use Rattle.std.proofs.Common.{◌≡◌, ◌≢◌, ◌+◌, ◌≤◌, ◌&&◌, ◌++◌, ℕ, zero, suc, ℤ, pos, negsuc, Bool, true, false, List, [], ◌∷◌, Option, Some, None, Ok, Err, length, nat_le, nat_lt, slice_get, if◌then◌else◌, refl, sym, ap, subst, ◌∙◌, arith}
+use Rattle.std.specs.Prelude.{◌+ℤ◌, ◌-ℤ◌, ◌*ℤ◌, neg_ℤ, ok_or}
 use Rattle.std.specs.List.{AllByRecursion}
 use Rattle.std.specs.Result.{result_unwrap_or}
 use Rattle.std.proofs.lemmas.Bool.Decides.{nat_tests}
 use Rattle.std.proofs.lemmas.Int.{ints}
 use Rattle.tx_base.specs.Width.{is_128_bit}
-use Rattle.tx_base.specs.declared.class.Class.{Class}
-use Rattle.tx_base.specs.declared.class.Class.TheVariants.{OverflowError, ProfileError, TypeError, IndexError, KeyError}
-use Rattle.tx_num.specs.Number.{floor_division, floor_modulo, floor_quotient, floor_remainder, kept, value_or_past}
+use Rattle.tx_base.specs.declared.class.Class.TheVariants.{ProfileError, TypeError, IndexError, KeyError}
+use Rattle.tx_num.specs.Number.{floor_quotient, floor_remainder, kept, value_or_past}
 use Rattle.tx_num.specs.Laws.{FloorLaw, LiesBetween}
-use Rattle.tx_num.specs.Place.{place_of, sliced, times_of}
+use Rattle.tx_num.specs.Place.{sliced, times_of}
 use Rattle.tx_num.specs.declared.division.Division.TheVariants as division
 use Rattle.tx_tree.specs.declared.operator.BinaryOp.{BinaryOp}
 use Rattle.tx_tree.specs.declared.operator.BinaryOp.TheVariants.{Add, Sub, Mul, FloorDiv, Mod}
 use Rattle.tx_tree.specs.declared.operator.UnaryOp.{UnaryOp}
 use Rattle.tx_tree.specs.declared.operator.UnaryOp.TheVariants.{Minus, Plus}
-use Rattle.tx_values.specs.declared.value.Value.{Value, Int, Text, Tuple, List as Listed, out-Value, roll-Value, roll-out-Value, map-Value, fold-roll-Value}
+use Rattle.tx_values.specs.declared.value.Value.{Value, Int, Text, Tuple, List as Listed, out-Value, roll-out-Value, map-Value, fold-roll-Value}
 use Rattle.tx_values.specs.declared.value.Value.TheVariants.{outs-Int, outs-Text, outs-Tuple, outs-List, rolls-Int}
 use Rattle.tx_values.specs.declared.value.Value.TheOpen.{Value-F}
 use Rattle.tx_values.specs.declared.value.Value.TheOpen as v
 use Rattle.tx_values.specs.Answer.{Answer, ◌>>=◌}
-use Rattle.tx_values.specs.Equality.{equal, number_of}
+use Rattle.tx_values.specs.Equality.{equal}
 use Rattle.tx_values.specs.Laws.{ValidLaw, is_sound}
 use Rattle.tx_values.specs.Limits.{depth, depth_step, in_limits, made, weight, weight_step}
 use Rattle.tx_values.specs.Lookup.{value_under}
 use Rattle.tx_values.specs.Operand.{Operand, number, text, tuple, list, dictionary, none, operand, operand_open}
-use Rattle.tx_values.specs.Valid.{Parts, hashable, valid}
+use Rattle.tx_values.specs.Valid.{Parts, hashable}
 use Rattle.tx_ops.specs.Overflow.{int_or_overflow}
 use Rattle.tx_ops.specs.Binary.{binary_of, copies, difference, divided, product, quotient, remainder, repetition, sum}
 use Rattle.tx_ops.specs.Unary.{itself, negation, unary_of}
-use Rattle.tx_ops.specs.Index.{character_at, index_in, index_of, item_at, place_at, value_at}
-use Rattle.tx_ops.specs.Slice.{bound_of, part_between, slice_in, slice_of}
+use Rattle.tx_ops.specs.Index.{character_at, index_in, item_at, place_at, value_at}
+use Rattle.tx_ops.specs.Slice.{bound_of, slice_in}
 use Rattle.tx_ops.specs.Laws.{IsValid, ResultsAreValid}
 use Rattle.tx_ops.proofs.LimitLemmas.{depth_list, depth_text, depth_tuple, depths, weight_list, weight_text, weight_tuple, weights}
 use Rattle.tx_ops.proofs.SliceLemmas.{all_append, all_sliced, depths_sliced, length_sliced, weights_sliced}

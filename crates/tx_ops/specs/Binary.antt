@@ -2,7 +2,7 @@
 -- Operations"). Each operator is a table of the kinds of its two operands, and all kinds that have no row are a TypeError. A
 -- sequence that is made is refused past its limits, as all values are; where an operation has other causes too, they come
 -- first.
-use Rattle.std.specs.Prelude.{ℕ, zero, suc, List, [], ◌++◌, Option, Some, None, Result, Ok, Err, ℤ, ◌+ℤ◌, ◌-ℤ◌, ◌*ℤ◌}
+use Rattle.std.specs.Prelude.{ℕ, zero, suc, List, [], ◌++◌, Option, Some, None, Ok, Err, ◌+ℤ◌, ◌-ℤ◌, ◌*ℤ◌}
 use Rattle.tx_base.specs.declared.class.Class.TheVariants.{OverflowError, ProfileError, TypeError, ZeroDivisionError}
 use Rattle.tx_num.specs.Number.{floor_division, floor_modulo, kept}
 use Rattle.tx_num.specs.Place.{times_of}

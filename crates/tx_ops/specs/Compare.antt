@@ -1,5 +1,5 @@
 -- Comparisons (Language Reference 6.10).
-use Rattle.std.specs.Prelude.{ℕ, Bool, true, false, not, List, Result, Ok, Err, is_some, if◌then◌else◌}
+use Rattle.std.specs.Prelude.{ℕ, Bool, true, false, not, List, Ok, Err, is_some, if◌then◌else◌}
 use Rattle.std.specs.List.{list_any}
 use Rattle.tx_base.specs.declared.class.Class.TheVariants.{TypeError}
 use Rattle.tx_text.specs.Text.{first_place}
@@ -10,7 +10,7 @@ use Rattle.tx_values.specs.Equality.{equal}
 use Rattle.tx_values.specs.Order.{less}
 use Rattle.tx_values.specs.Valid.{hashable}
 use Rattle.tx_values.specs.Answer.{Answer, ◌>>=◌}
-use Rattle.tx_values.specs.Operand.{Operand, number, text, tuple, list, dictionary, none, operand}
+use Rattle.tx_values.specs.Operand.{Operand, text, tuple, list, dictionary, none, operand}
 
 -- the opposite of an answer
 abbrev pub opposite : Answer Bool → Answer Bool

@@ -1,5 +1,5 @@
 -- Subscriptions `base[at]` (Language Reference 6.3.2): the item of a sequence, or the value of a dictionary.
-use Rattle.std.specs.Prelude.{ℕ, List, [], ◌∷◌, length, slice_get, ok_or, if◌then◌else◌, Result, Ok, Err}
+use Rattle.std.specs.Prelude.{ℕ, List, [], ◌∷◌, length, slice_get, ok_or, if◌then◌else◌, Ok, Err}
 use Rattle.tx_base.specs.declared.class.Class.TheVariants.{IndexError, KeyError, TypeError}
 use Rattle.tx_num.specs.Place.{place_of}
 use Rattle.tx_values.specs.declared.value.Value.{Value}

@@ -1,5 +1,5 @@
 -- Slicings `base[from:to]` (Language Reference 6.3.3) of a sequence.
-use Rattle.std.specs.Prelude.{List, Option, Some, None, Result, Ok, Err, ℤ, pos}
+use Rattle.std.specs.Prelude.{List, Option, Some, None, Ok, Err, ℤ, pos}
 use Rattle.tx_base.specs.declared.class.Class.TheVariants.{ProfileError, TypeError}
 use Rattle.tx_num.specs.Place.{sliced}
 use Rattle.tx_values.specs.declared.value.Value.{Value}

@@ -1,5 +1,5 @@
 -- Signs (Language Reference 6.6, "Unary arithmetic and bitwise operations"): of a number, an integer; all else is a TypeError.
-use Rattle.std.specs.Prelude.{Result, Ok, Err, neg_ℤ}
+use Rattle.std.specs.Prelude.{Ok, Err, neg_ℤ}
 use Rattle.tx_base.specs.declared.class.Class.TheVariants.{TypeError}
 use Rattle.tx_num.specs.Number.{kept}
 use Rattle.tx_tree.specs.declared.operator.UnaryOp.{UnaryOp}

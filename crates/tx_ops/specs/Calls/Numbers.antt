@@ -1,5 +1,5 @@
 -- The numbers among operands.
-use Rattle.std.specs.Prelude.{Option, Some, None, ℤ, option_map}
+use Rattle.std.specs.Prelude.{Option, Some, None, ℤ}
 use Rattle.tx_values.specs.Operand.{Operand, number}
 
 abbrev pub number_in : Operand → Option ℤ

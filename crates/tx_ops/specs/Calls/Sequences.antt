@@ -1,5 +1,5 @@
 -- The rows of the tables of arithmetic that are not of two numbers.
-use Rattle.std.specs.Prelude.{List, ◌++◌, Result, Ok, Err, ℤ}
+use Rattle.std.specs.Prelude.{◌++◌, Err, ℤ}
 use Rattle.tx_base.specs.declared.class.Class.TheVariants.{ProfileError, TypeError}
 use Rattle.tx_num.specs.Place.{times_of}
 use Rattle.tx_text.specs.Text.{repeated}
