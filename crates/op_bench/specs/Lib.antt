@@ -1,0 +1,2 @@
+-- The words of the operations.
+pub mod Word
