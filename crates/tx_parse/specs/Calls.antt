@@ -1,0 +1,4 @@
+pub mod Front
+pub mod Reader
+pub mod Statements
+pub mod Blocks
