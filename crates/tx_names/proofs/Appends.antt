@@ -1,0 +1,4 @@
+-- Lists added behind one another.
+use Rattle.std.proofs.Common.{append_assoc, append-nil}
+
+pub ruleset appends = (append_assoc, append-nil)
