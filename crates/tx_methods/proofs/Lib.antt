@@ -6,6 +6,10 @@ pub mod Zips
 pub mod FirstExtremes
 -- A number of arguments that is not allowed is TypeError.
 pub mod WrongNumbers
+-- What is true of each character of texts is true of each of the texts that are made of them.
+pub mod Characters
+-- Texts whose characters are code points.
+pub mod CodePoints
 -- Valid values: what makes one, and what its parts are.
 pub mod ValidValues
 -- What valid values give as items is valid.

@@ -2,7 +2,7 @@
 use Rattle.std.proofs.Common.{◌≡◌, ℕ, suc, ◌<◌, ◌≤◌, ◌^◌, Bool, true, false, nat_le, nat_lt, lit<, List, [], ◌∷◌, length, Option, Some, None, Ok, Err, ℤ, pos, negsuc, refl, arith}
 use Rattle.std.specs.Prelude.{codes, ◌+ℤ◌, ◌==◌, filter, if◌then◌else◌, IfOk, IfSome, option_and_then}
 use Rattle.std.specs.Fmt.{decimal, signed_decimal}
-use Rattle.std.specs.List.{AllByRecursion, list_all, list_any}
+use Rattle.std.specs.List.{list_all, list_any}
 use Rattle.std.specs.Str.Parse.{digits_value}
 use Rattle.std.proofs.lemmas.Bool.Decides.{nat_tests}
 use Rattle.std.proofs.lemmas.Fmt.{length-decimal-le_wide}
@@ -25,10 +25,12 @@ use Rattle.tx_values.specs.Equality.{truthy}
 use Rattle.tx_values.specs.Laws.{ValidLaw, is_sound}
 use Rattle.tx_values.specs.Limits.{most_weight}
 use Rattle.tx_values.specs.Order.{less}
+use Rattle.tx_values.specs.Valid.{code_point_end, is_code_point}
 use Rattle.tx_methods.specs.Arguments.{a_number, only}
 use Rattle.tx_methods.specs.Builtins as table
 use Rattle.tx_methods.specs.Builtins.{abs_of, builtin_of, greatest_from, greatest_of, int_in, int_or_past, int_read, least_from, least_of, len_in, magnitude, numbers_ahead, of_candidates, of_items, of_items_in, of_value, ord_in, str_in, sum_of_items}
-use Rattle.tx_methods.specs.Laws.{AreValid, BuiltinsLaw, HasCodePoints, IsValid}
+use Rattle.tx_methods.specs.Laws.{AreValid, BuiltinsLaw, IsValid}
+use Rattle.tx_methods.proofs.CodePoints.{points_of, signed_points}
 use Rattle.tx_methods.specs.Walks.{iterate_of}
 use Rattle.tx_methods.proofs.ValidValues.{either, first, goes_on, int_valid, layer_weight, light, made_list, made_tuple, small_valid, sound_of, text_valid, truth_valid, weighs_items, weighs_pairs}
 use Rattle.tx_methods.proofs.ValidItems.{iterate_valid, number_valid}
@@ -101,18 +103,18 @@ module _ (law : ValidLaw) where
   short (negsuc n) e = let less : suc n < 10 ^ 39 = grind (arith, nat_tests) in let h : length (decimal (suc n)) ≤ 39 = length-decimal-le_wide 39 (suc n) (lit< tt) less (omega arith) in omega (arith, h)
 
   str_valid : (x : Value-F Value) → is_sound x ≡ true → nat_le (layer_weight x) most_weight ≡ true → IfOk (str_in x) IsValid
-  str_valid v.Nil s l = text_valid law (codes "None") (omega arith)
-  str_valid (v.Truth true) s l = text_valid law (codes "True") (omega arith)
-  str_valid (v.Truth false) s l = text_valid law (codes "False") (omega arith)
-  str_valid (v.Int n) s l = text_valid law (signed_decimal n) (short n s)
-  str_valid (v.Text text) s l = text_valid law text (grind (arith, nat_tests))
+  str_valid v.Nil s l = text_valid law (codes "None") (points_of (codes "None") refl) (omega arith)
+  str_valid (v.Truth true) s l = text_valid law (codes "True") (points_of (codes "True") refl) (omega arith)
+  str_valid (v.Truth false) s l = text_valid law (codes "False") (points_of (codes "False") refl) (omega arith)
+  str_valid (v.Int n) s l = text_valid law (signed_decimal n) (signed_points n s) (short n s)
+  str_valid (v.Text text) s l = text_valid law text (points_of text s) (grind (arith, nat_tests))
   str_valid (v.Tuple items) s l = tt
   str_valid (v.List items) s l = tt
   str_valid (v.Dict pairs) s l = tt
 
-  ord_valid : (x : Value-F Value) → HasCodePoints x → IfOk (ord_in x) IsValid
+  ord_valid : (x : Value-F Value) → is_sound x ≡ true → IfOk (ord_in x) IsValid
   ord_valid (v.Text []) h = tt
-  ord_valid (v.Text (c ∷ [])) h = small_valid law c (let low : nat_lt c 0x110000 ≡ true = first (nat_lt c 0x110000) true h in grind (arith, nat_tests))
+  ord_valid (v.Text (c ∷ [])) h = small_valid law c (let low : nat_lt c code_point_end ≡ true = first (is_code_point c) true h in grind (arith, nat_tests))
   ord_valid (v.Text (c ∷ d ∷ text)) h = tt
   ord_valid v.Nil h = tt
   ord_valid (v.Truth b) h = tt
@@ -187,25 +189,25 @@ module _ (law : ValidLaw) where
       goes_on (λ n. is_128_bit n ≡ true) IsValid (a_number a) (λ n. int_or_past (kept (magnitude n))) (number_valid law a h)
       (λ n e. int_or_past_valid (kept (magnitude n)) (kept_fits (magnitude n)))
 
-  value_valid : (b : Builtin) (a : Value) → IsValid a → HasCodePoints (out-Value a) → IfOk (of_value b a) IsValid
-  value_valid builtin.Len a h p = len_valid (out-Value a) (light law a h)
-  value_valid builtin.Int a h p = int_valid_in (out-Value a) (sound_of law a h)
-  value_valid builtin.Str a h p = str_valid (out-Value a) (sound_of law a h) (light law a h)
-  value_valid builtin.Bool a h p = truth_valid law (truthy a)
-  value_valid builtin.Abs a h p = abs_valid a h
-  value_valid builtin.Ord a h p = ord_valid (out-Value a) p
-  value_valid builtin.Min a h p = in_valid builtin.Min a h
-  value_valid builtin.Max a h p = in_valid builtin.Max a h
-  value_valid builtin.Sum a h p = in_valid builtin.Sum a h
-  value_valid builtin.Any a h p = in_valid builtin.Any a h
-  value_valid builtin.All a h p = in_valid builtin.All a h
-  value_valid builtin.List a h p = in_valid builtin.List a h
-  value_valid builtin.Tuple a h p = in_valid builtin.Tuple a h
+  value_valid : (b : Builtin) (a : Value) → IsValid a → IfOk (of_value b a) IsValid
+  value_valid builtin.Len a h = len_valid (out-Value a) (light law a h)
+  value_valid builtin.Int a h = int_valid_in (out-Value a) (sound_of law a h)
+  value_valid builtin.Str a h = str_valid (out-Value a) (sound_of law a h) (light law a h)
+  value_valid builtin.Bool a h = truth_valid law (truthy a)
+  value_valid builtin.Abs a h = abs_valid a h
+  value_valid builtin.Ord a h = ord_valid (out-Value a) (sound_of law a h)
+  value_valid builtin.Min a h = in_valid builtin.Min a h
+  value_valid builtin.Max a h = in_valid builtin.Max a h
+  value_valid builtin.Sum a h = in_valid builtin.Sum a h
+  value_valid builtin.Any a h = in_valid builtin.Any a h
+  value_valid builtin.All a h = in_valid builtin.All a h
+  value_valid builtin.List a h = in_valid builtin.List a h
+  value_valid builtin.Tuple a h = in_valid builtin.Tuple a h
 
-  one_valid : (b : Builtin) (args : List Value) → AreValid args → AllByRecursion (λ a. HasCodePoints (out-Value a)) args → IfOk (only args >>= of_value b) IsValid
-  one_valid b [] h p = tt
-  one_valid b (a ∷ []) h p = value_valid b a h.0 p.0
-  one_valid b (a ∷ c ∷ args) h p = tt
+  one_valid : (b : Builtin) (args : List Value) → AreValid args → IfOk (only args >>= of_value b) IsValid
+  one_valid b [] h = tt
+  one_valid b (a ∷ []) h = value_valid b a h.0
+  one_valid b (a ∷ c ∷ args) h = tt
 
   of_valid_candidates : (b : Builtin) (args : List Value) → AreValid args → IfOk (of_candidates b args) IsValid
   of_valid_candidates b [] h = tt
@@ -213,16 +215,16 @@ module _ (law : ValidLaw) where
   of_valid_candidates b (a ∷ c ∷ args) h = items_valid b (a ∷ c ∷ args) h
 
   pub builtins_valid : BuiltinsLaw
-  builtins_valid builtin.Min args h p = of_valid_candidates builtin.Min args h
-  builtins_valid builtin.Max args h p = of_valid_candidates builtin.Max args h
-  builtins_valid builtin.Len args h p = one_valid builtin.Len args h p
-  builtins_valid builtin.Int args h p = one_valid builtin.Int args h p
-  builtins_valid builtin.Str args h p = one_valid builtin.Str args h p
-  builtins_valid builtin.Bool args h p = one_valid builtin.Bool args h p
-  builtins_valid builtin.Abs args h p = one_valid builtin.Abs args h p
-  builtins_valid builtin.Sum args h p = one_valid builtin.Sum args h p
-  builtins_valid builtin.Any args h p = one_valid builtin.Any args h p
-  builtins_valid builtin.All args h p = one_valid builtin.All args h p
-  builtins_valid builtin.Ord args h p = one_valid builtin.Ord args h p
-  builtins_valid builtin.List args h p = one_valid builtin.List args h p
-  builtins_valid builtin.Tuple args h p = one_valid builtin.Tuple args h p
+  builtins_valid builtin.Min args h = of_valid_candidates builtin.Min args h
+  builtins_valid builtin.Max args h = of_valid_candidates builtin.Max args h
+  builtins_valid builtin.Len args h = one_valid builtin.Len args h
+  builtins_valid builtin.Int args h = one_valid builtin.Int args h
+  builtins_valid builtin.Str args h = one_valid builtin.Str args h
+  builtins_valid builtin.Bool args h = one_valid builtin.Bool args h
+  builtins_valid builtin.Abs args h = one_valid builtin.Abs args h
+  builtins_valid builtin.Sum args h = one_valid builtin.Sum args h
+  builtins_valid builtin.Any args h = one_valid builtin.Any args h
+  builtins_valid builtin.All args h = one_valid builtin.All args h
+  builtins_valid builtin.Ord args h = one_valid builtin.Ord args h
+  builtins_valid builtin.List args h = one_valid builtin.List args h
+  builtins_valid builtin.Tuple args h = one_valid builtin.Tuple args h

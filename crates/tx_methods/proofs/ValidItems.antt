@@ -4,6 +4,7 @@ use Rattle.std.specs.Prelude.{◌+ℤ◌, ◌*ℤ◌, if◌then◌else◌, IfOk,
 use Rattle.std.specs.List.{AllByRecursion, list_all}
 use Rattle.std.proofs.lemmas.Bool.Decides.{nat_tests}
 use Rattle.std.proofs.lemmas.List.{length-map}
+use Rattle.std.proofs.lemmas.List.Elements.{All-head, All-tail}
 use Rattle.tx_base.specs.Width.{is_128_bit}
 use Rattle.tx_base.specs.declared.class.Class.TheVariants.{TypeError, ProfileError}
 use Rattle.tx_num.specs.Range.{RangeEndLaw, RangeItemsLaw, count_between, count_up_to_most, items_from, most_items}
@@ -17,9 +18,11 @@ use Rattle.tx_values.specs.Answer.{◌>>=◌}
 use Rattle.tx_values.specs.Laws.{ValidLaw, is_sound}
 use Rattle.tx_values.specs.Limits.{in_limits, most_weight, weight, weight_of_items, weight_of_pairs}
 use Rattle.tx_values.specs.Valid.{Parts}
-use Rattle.tx_methods.specs.Arguments.{a_number, both, integer_in, only}
+use Rattle.tx_methods.specs.Arguments.{a_number, a_text, both, integer_in, only, text_in}
 use Rattle.tx_methods.specs.Laws.{AreValid, IsValid, IterateLaw, WalksLaw}
 use Rattle.tx_methods.specs.Walks.{a_dictionary, character, couple, couples, counted_from, items_in, iterate_of, numbered, numbers_in, one_dictionary, pairs_in, enumerate_items, range_by, range_of, zip_behind, zip_items}
+use Rattle.tx_methods.proofs.Characters.{All-single}
+use Rattle.tx_methods.proofs.CodePoints.{ArePoints, IsPoint, points_of}
 use Rattle.tx_methods.proofs.RangeItems.{item_fits}
 use Rattle.tx_methods.proofs.ValidValues.{first, second, goes_on, layer_weight, light, weighs_items, weighs_keys, int_valid, parts_of, small_valid, sound_of, text_valid, tuple_valid}
 
@@ -29,9 +32,9 @@ module _ (law : ValidLaw) where
 
   -- ---- the items of a value
 
-  characters_valid : (text : List ℕ) → AreValid (map character text)
-  characters_valid [] = tt
-  characters_valid (c ∷ text) = (text_valid law (c ∷ []) (omega arith), characters_valid text)
+  characters_valid : (text : List ℕ) → ArePoints text → AreValid (map character text)
+  characters_valid [] p = tt
+  characters_valid (c ∷ text) p = (text_valid law (c ∷ []) (All-single IsPoint c (All-head IsPoint c text p)) (omega arith), characters_valid text (All-tail IsPoint c text p))
 
   pub keys_valid : (pairs : List (Value × Value)) → PairsValid pairs → AreValid (map (λ p. p.0) pairs)
   keys_valid [] h = tt
@@ -41,14 +44,14 @@ module _ (law : ValidLaw) where
   values_valid [] h = tt
   values_valid (p ∷ pairs) h = (h.0.1, values_valid pairs h.1)
 
-  items_valid : (x : Value-F Value) → Parts IsValid x → IfOk (items_in x) AreValid
-  items_valid (v.Text text) h = characters_valid text
-  items_valid (v.Tuple items) h = h
-  items_valid (v.List items) h = h
-  items_valid (v.Dict pairs) h = keys_valid pairs h
-  items_valid v.Nil h = tt
-  items_valid (v.Truth b) h = tt
-  items_valid (v.Int n) h = tt
+  items_valid : (x : Value-F Value) → is_sound x ≡ true → Parts IsValid x → IfOk (items_in x) AreValid
+  items_valid (v.Text text) s h = characters_valid text (points_of text s)
+  items_valid (v.Tuple items) s h = h
+  items_valid (v.List items) s h = h
+  items_valid (v.Dict pairs) s h = keys_valid pairs h
+  items_valid v.Nil s h = tt
+  items_valid (v.Truth b) s h = tt
+  items_valid (v.Int n) s h = tt
 
   few_of : (items : List Value) → nat_le (weight_of_items (map weight items)) most_weight ≡ true → length items ≤ most_weight
   few_of items l = let w : length items ≤ weight_of_items (map weight items) = weighs_items items in grind (arith, nat_tests)
@@ -57,19 +60,19 @@ module _ (law : ValidLaw) where
   few_keys pairs l = let w : length (map {B = Value} (λ p. p.0) pairs) ≤ weight_of_pairs (map (λ p. (weight p.0, weight p.1)) pairs) = weighs_keys pairs in grind (arith, nat_tests)
 
   pub iterate_valid : IterateLaw
-  iterate_valid a h = items_valid (out-Value a) (parts_of law a h)
+  iterate_valid a h = items_valid (out-Value a) (sound_of law a h) (parts_of law a h)
 
-  few : (x : Value-F Value) → Parts IsValid x → nat_le (layer_weight x) most_weight ≡ true → IfOk (items_in x) (λ items. AreValid items × (length items ≤ most_weight))
-  few (v.Text text) h l = (characters_valid text, (let e : length (map character text) ≡ length text = length-map text character in grind (arith, nat_tests)))
-  few (v.Tuple items) h l = (h, few_of items l)
-  few (v.List items) h l = (h, few_of items l)
-  few (v.Dict pairs) h l = (keys_valid pairs h, few_keys pairs l)
-  few v.Nil h l = tt
-  few (v.Truth b) h l = tt
-  few (v.Int n) h l = tt
+  few : (x : Value-F Value) → is_sound x ≡ true → Parts IsValid x → nat_le (layer_weight x) most_weight ≡ true → IfOk (items_in x) (λ items. AreValid items × (length items ≤ most_weight))
+  few (v.Text text) s h l = (characters_valid text (points_of text s), (let e : length (map character text) ≡ length text = length-map text character in grind (arith, nat_tests)))
+  few (v.Tuple items) s h l = (h, few_of items l)
+  few (v.List items) s h l = (h, few_of items l)
+  few (v.Dict pairs) s h l = (keys_valid pairs h, few_keys pairs l)
+  few v.Nil s h l = tt
+  few (v.Truth b) s h l = tt
+  few (v.Int n) s h l = tt
 
   pub few_items : (a : Value) → IsValid a → IfOk (iterate_of a) (λ items. AreValid items × (length items ≤ most_weight))
-  few_items a h = few (out-Value a) (parts_of law a h) (light law a h)
+  few_items a h = few (out-Value a) (sound_of law a h) (parts_of law a h) (light law a h)
 
   -- ---- arguments
 
@@ -83,6 +86,18 @@ module _ (law : ValidLaw) where
   both_valid (a ∷ []) h = tt
   both_valid (a ∷ b ∷ []) h = (h.0, h.1.0)
   both_valid (a ∷ b ∷ c ∷ args) h = tt
+
+  text_sound : (x : Value-F Value) → is_sound x ≡ true → IfOk (text_in x) ArePoints
+  text_sound (v.Text text) e = points_of text e
+  text_sound v.Nil e = tt
+  text_sound (v.Truth b) e = tt
+  text_sound (v.Int n) e = tt
+  text_sound (v.Tuple items) e = tt
+  text_sound (v.List items) e = tt
+  text_sound (v.Dict pairs) e = tt
+
+  pub a_text-points : (a : Value) → IsValid a → IfOk (a_text a) ArePoints
+  a_text-points a h = text_sound (out-Value a) (sound_of law a h)
 
   number_sound : (x : Value-F Value) → is_sound x ≡ true → IfOk (ok_or (integer_in x) TypeError) (λ n. is_128_bit n ≡ true)
   number_sound (v.Truth true) e = refl

@@ -5,9 +5,10 @@ use Rattle.std.specs.List.{AllByRecursion, flat_map, list_all, position_or_len, 
 use Rattle.std.proofs.lemmas.Bool.Decides.{nat_tests}
 use Rattle.std.proofs.lemmas.List.{length-drop, length-take}
 use Rattle.std.proofs.lemmas.List.Sums.{count_by-le-length}
+use Rattle.tx_base.specs.declared.class.Class.{Class}
 use Rattle.tx_base.specs.declared.class.Class.TheVariants.{TypeError, ValueError, ProfileError}
 use Rattle.tx_text.specs.Laws.{IsGreatestPlace, IsLeastPlace, PlacesLaw}
-use Rattle.tx_text.specs.Text.{begins, count_of, digits_of, filled, first_place, is_latin, is_taken, joined, last_place, lower_char, onto_first, pieces_from, replaced, stripped, upper_of, without_back, without_front}
+use Rattle.tx_text.specs.Text.{begins, count_of, digits_of, filled, first_place, is_latin, is_some_text, is_taken, joined, last_place, lower_char, onto_first, pieces, pieces_from, replaced, stripped, upper_of, without_back, without_front}
 use Rattle.tx_text.specs.declared.strip.Side.{Side}
 use Rattle.tx_text.specs.declared.strip.Side.TheVariants.{Both, Left, Right}
 use Rattle.tx_tree.specs.declared.function.Method.{Method}
@@ -18,11 +19,11 @@ use Rattle.tx_values.specs.declared.value.Value.TheOpen.{Value-F}
 use Rattle.tx_values.specs.declared.value.Value.TheOpen as v
 use Rattle.tx_values.specs.Answer.{Answer, ◌>>=◌}
 use Rattle.tx_values.specs.Equality.{equal}
-use Rattle.tx_values.specs.Laws.{PartsLaw, ValidLaw}
+use Rattle.tx_values.specs.Laws.{PartsLaw, ValidLaw, is_sound}
 use Rattle.tx_values.specs.Limits.{depth, in_limits, made, most_weight, weight}
 use Rattle.tx_values.specs.Lookup.{value_under}
 use Rattle.tx_values.specs.Valid.{Parts, hashable}
-use Rattle.tx_methods.specs.Arguments.{one_number, one_or_two, one_text, only, optional_text, two_texts, without}
+use Rattle.tx_methods.specs.Arguments.{a_text, both, one_number, one_or_two, one_text, only, optional_text, two_texts, without}
 use Rattle.tx_methods.specs.Builtins.{natural}
 use Rattle.tx_methods.specs.DictMethods.{dict_method}
 use Rattle.tx_methods.specs.Laws.{AreValid, IsValid, MethodsLaw}
@@ -30,9 +31,12 @@ use Rattle.tx_methods.specs.Methods.{method_in}
 use Rattle.tx_methods.specs.SequenceMethods.{sequence_method}
 use Rattle.tx_methods.specs.TextMethods.{digit_test, ends, find_of, fit_of, fits_in, index_of, join_items, join_of, join_value, lower_text, made_text, pieces_at, pieces_list, place_or_minus_one, replace_of, split_of, strip_of, text_count_of, text_method, texts_in, upper_text, width_of, zfill_of}
 use Rattle.tx_methods.specs.Walks.{iterate_of}
-use Rattle.tx_methods.proofs.ValidValues.{either, first, goes_on, int_valid, layer_weight, light, list_valid, made_text_valid, none_valid, parts_of, small_valid, text_valid, truth_valid, weighs_items}
-use Rattle.tx_values.specs.declared.value.Value.TheVariants.{rolls-List}
+use Rattle.tx_methods.proofs.Characters.{All-filled, All-joined, All-replaced, All-stripped, EachOf, EachOf-pieces, EachOf-words}
+use Rattle.tx_methods.proofs.CodePoints.{ArePoints, IsPoint, lower_of-points, points_of, upper_of-points}
 use Rattle.tx_methods.proofs.Layers.{opened, weight_text}
+use Rattle.tx_methods.proofs.ValidItems.{a_text-points, both_valid, iterate_valid, only_valid}
+use Rattle.tx_methods.proofs.ValidValues.{either, first, goes_on, int_valid, layer_weight, light, list_valid, made_text_valid, none_valid, parts_of, small_valid, sound_of, text_valid, truth_valid, weighs_items}
+use Rattle.tx_values.specs.declared.value.Value.TheVariants.{rolls-List}
 
 module _ (law : ValidLaw) where
   -- what says nothing of a value
@@ -42,6 +46,27 @@ module _ (law : ValidLaw) where
   any : {A : Type 0} (o : Answer A) → IfOk o Any
   any (Ok a) = tt
   any (Err c) = tt
+
+  told : {A : Type 0} (P : A → Type 0) (c : Class) (o : Option A) → IfSome o P → IfOk (ok_or o c) P
+  told P c (Some a) h = h
+  told P c None h = tt
+
+  -- ---- arguments that are texts
+
+  abbrev TwoPoints : List ℕ × List ℕ → Type 0
+  TwoPoints pair = ArePoints pair.0 × ArePoints pair.1
+
+  two_texts-points : (args : List Value) → AreValid args → IfOk (two_texts args) TwoPoints
+  two_texts-points args h =
+      goes_on (λ p. IsValid p.0 × IsValid p.1) TwoPoints (both args) (λ p. a_text p.0 >>= (λ old. a_text p.1 >>= (λ new. Ok (old, new)))) (both_valid law args h)
+      (λ p k. goes_on ArePoints TwoPoints (a_text p.0) (λ old. a_text p.1 >>= (λ new. Ok (old, new))) (a_text-points law p.0 k.0)
+      (λ old o. goes_on ArePoints TwoPoints (a_text p.1) (λ new. Ok (old, new)) (a_text-points law p.1 k.1) (λ new n. (o, n))))
+
+  texts_in-points : (items : List Value) → AreValid items → IfOk (texts_in items) (EachOf IsPoint)
+  texts_in-points [] h = tt
+  texts_in-points (item ∷ items) h =
+      goes_on ArePoints (EachOf IsPoint) (a_text item) (λ text. texts_in items >>= (λ texts. Ok (text ∷ texts))) (a_text-points law item h.0)
+      (λ text p. goes_on (EachOf IsPoint) (EachOf IsPoint) (texts_in items) (λ texts. Ok (text ∷ texts)) (texts_in-points items h.1) (λ texts ps. (p, ps)))
 
   -- ---- lengths
 
@@ -79,16 +104,16 @@ module _ (law : ValidLaw) where
 
   -- ---- texts
 
-  module _ (text : List ℕ) (light : length text ≤ most_weight) where
+  module _ (text : List ℕ) (points : ArePoints text) (light : length text ≤ most_weight) where
     lower_valid : IfOk (lower_text text) IsValid
-    lower_valid = by_test (list_all is_latin text)
+    lower_valid = by_test (list_all is_latin text) (lower_of-points text)
       where
-        by_test : (b : Bool) → IfOk (ok_or (if b then Some (flat_map (λ c. lower_char c ∷ []) text) else None) ProfileError >>= (λ changed. Ok (value.Text changed))) IsValid
-        by_test true = text_valid law (flat_map (λ c. lower_char c ∷ []) text) (let e = as_long lower_char text in omega (arith, e))
-        by_test false = tt
+        by_test : (b : Bool) → IfSome (if b then Some (flat_map (λ c. lower_char c ∷ []) text) else None) ArePoints → IfOk (ok_or (if b then Some (flat_map (λ c. lower_char c ∷ []) text) else None) ProfileError >>= (λ changed. Ok (value.Text changed))) IsValid
+        by_test true p = text_valid law (flat_map (λ c. lower_char c ∷ []) text) p (let e = as_long lower_char text in omega (arith, e))
+        by_test false p = tt
 
     upper_valid : IfOk (upper_text text) IsValid
-    upper_valid = goes_on Any IsValid (ok_or (upper_of text) ProfileError) made_text (any (ok_or (upper_of text) ProfileError)) (λ changed u. made_text_valid law changed)
+    upper_valid = goes_on ArePoints IsValid (ok_or (upper_of text) ProfileError) made_text (told ArePoints ProfileError (upper_of text) (upper_of-points text)) (made_text_valid law)
 
     digits_valid : IfOk (digit_test text) IsValid
     digits_valid = goes_on Any IsValid (ok_or (digits_of text) ProfileError) (λ b. Ok (value.Truth b)) (any (ok_or (digits_of text) ProfileError)) (λ b u. truth_valid law b)
@@ -100,10 +125,12 @@ module _ (law : ValidLaw) where
     strip_valid : (side : Side) (args : List Value) → IfOk (strip_of side text args) IsValid
     strip_valid side args =
         goes_on Any IsValid (optional_text args) (λ those. Ok (value.Text (stripped side (is_taken those) text))) (any (optional_text args))
-        (λ those u. text_valid law (stripped side (is_taken those) text) (let h : length (stripped side (is_taken those) text) ≤ length text = stripped_less side (is_taken those) text in omega (arith, h, light)))
+        (λ those u. text_valid law (stripped side (is_taken those) text) (All-stripped IsPoint side (is_taken those) text points) (let h : length (stripped side (is_taken those) text) ≤ length text = stripped_less side (is_taken those) text in omega (arith, h, light)))
 
-    replace_valid : (args : List Value) → IfOk (replace_of text args) IsValid
-    replace_valid args = goes_on Any IsValid (two_texts args) (λ pair. made_text (replaced pair.0 pair.1 text)) (any (two_texts args)) (λ pair u. made_text_valid law (replaced pair.0 pair.1 text))
+    replace_valid : (args : List Value) → AreValid args → IfOk (replace_of text args) IsValid
+    replace_valid args h =
+        goes_on TwoPoints IsValid (two_texts args) (λ pair. made_text (replaced pair.0 pair.1 text)) (two_texts-points args h)
+        (λ pair p. made_text_valid law (replaced pair.0 pair.1 text) (All-replaced IsPoint pair.0 pair.1 text p.1 points))
 
     place_valid : (o : Option ℕ) → IfSome o (λ place. place ≤ length text) → IsValid (value.Int (place_or_minus_one o))
     place_valid None h = int_valid law (negsuc 0) refl
@@ -130,16 +157,17 @@ module _ (law : ValidLaw) where
         goes_on Any IsValid (only args) (λ arg. fits_in fits (out-Value arg) >>= (λ answer. Ok (value.Truth answer))) (any (only args))
         (λ arg u. goes_on Any IsValid (fits_in fits (out-Value arg)) (λ answer. Ok (value.Truth answer)) (any (fits_in fits (out-Value arg))) (λ answer w. truth_valid law answer))
 
-    join_valid : (args : List Value) → IfOk (join_of text args) IsValid
-    join_valid args =
-        goes_on Any IsValid (only args) (λ arg. join_value text arg) (any (only args))
-        (λ arg u. goes_on Any IsValid (iterate_of arg) (λ items. join_items text items) (any (iterate_of arg))
-        (λ items w. goes_on Any IsValid (texts_in items) (λ texts. made_text (joined text texts)) (any (texts_in items)) (λ texts x. made_text_valid law (joined text texts))))
+    join_valid : (args : List Value) → AreValid args → IfOk (join_of text args) IsValid
+    join_valid args h =
+        goes_on IsValid IsValid (only args) (λ arg. join_value text arg) (only_valid law args h)
+        (λ arg a. goes_on AreValid IsValid (iterate_of arg) (λ items. join_items text items) (iterate_valid law arg a)
+        (λ items k. goes_on (EachOf IsPoint) IsValid (texts_in items) (λ texts. made_text (joined text texts)) (texts_in-points items k)
+        (λ texts p. made_text_valid law (joined text texts) (All-joined IsPoint text texts points p))))
 
     zfill_valid : (args : List Value) → IfOk (zfill_of text args) IsValid
     zfill_valid args =
         goes_on Any IsValid (one_number args) (λ n. width_of n >>= (λ width. made_text (filled width text))) (any (one_number args))
-        (λ n u. goes_on Any IsValid (width_of n) (λ width. made_text (filled width text)) (any (width_of n)) (λ width w. made_text_valid law (filled width text)))
+        (λ n u. goes_on Any IsValid (width_of n) (λ width. made_text (filled width text)) (any (width_of n)) (λ width w. made_text_valid law (filled width text) (All-filled IsPoint width text refl points)))
 
   least_within : (part text : List ℕ) (o : Option ℕ) → IsLeastPlace part text o → IfSome o (λ place. place ≤ length text)
   least_within part text None h = tt
@@ -152,28 +180,33 @@ module _ (law : ValidLaw) where
   -- ---- `split`: each text weighs less than the list
 
   module _ (within : PartsLaw) where
-    texts_valid : (texts : List (List ℕ)) (n : ℕ) → n ≤ most_weight → AllByRecursion (λ x. (weight x < n) × (depth x < depth (value.List (map value.Text texts)))) (map value.Text texts) → AreValid (map value.Text texts)
-    texts_valid texts n h k = each texts k
+    texts_valid : (texts : List (List ℕ)) (n : ℕ) → n ≤ most_weight → EachOf IsPoint texts → AllByRecursion (λ x. (weight x < n) × (depth x < depth (value.List (map value.Text texts)))) (map value.Text texts) → AreValid (map value.Text texts)
+    texts_valid texts n h p k = each texts p k
       where
-        each : (ts : List (List ℕ)) → AllByRecursion (λ x. (weight x < n) × (depth x < depth (value.List (map value.Text texts)))) (map value.Text ts) → AreValid (map value.Text ts)
-        each [] k = tt
-        each (t ∷ ts) k = (text_valid law t (let w : weight (value.Text t) < n = k.0.0 in omega (arith, w, h, weight_text t)), each ts k.1)
+        each : (ts : List (List ℕ)) → EachOf IsPoint ts → AllByRecursion (λ x. (weight x < n) × (depth x < depth (value.List (map value.Text texts)))) (map value.Text ts) → AreValid (map value.Text ts)
+        each [] p k = tt
+        each (t ∷ ts) p k = (text_valid law t p.0 (let w : weight (value.Text t) < n = k.0.0 in omega (arith, w, h, weight_text t)), each ts p.1 k.1)
 
-    made_texts : (texts : List (List ℕ)) → IfOk (made (value.List (map value.Text texts))) IsValid
-    made_texts texts = by_limits (in_limits (value.List (map value.Text texts))) refl
+    made_texts : (texts : List (List ℕ)) → EachOf IsPoint texts → IfOk (made (value.List (map value.Text texts))) IsValid
+    made_texts texts p = by_limits (in_limits (value.List (map value.Text texts))) refl
       where
         by_limits : (b : Bool) → in_limits (value.List (map value.Text texts)) ≡ b → IfOk (if b then Ok (value.List (map value.Text texts)) else Err ProfileError) IsValid
         by_limits true e =
             list_valid law (map value.Text texts) e
             (texts_valid texts (weight (value.List (map value.Text texts)))
             (let l = first (nat_le (weight (value.List (map value.Text texts))) most_weight) (nat_le (depth (value.List (map value.Text texts))) 16) e in grind (arith, nat_tests))
+            p
             (subst (λ (y : Value-F Value). Parts (λ x. (weight x < weight (value.List (map value.Text texts))) × (depth x < depth (value.List (map value.Text texts)))) y) (opened (v.List (map value.Text texts)) (value.List (map value.Text texts)) (rolls-List (map value.Text texts))) (within (value.List (map value.Text texts)))))
         by_limits false e = tt
 
-    split_valid : (text : List ℕ) (args : List Value) → IfOk (split_of text args) IsValid
-    split_valid text args =
+    pieces_at-points : (text : List ℕ) (sep : Option (List ℕ)) → ArePoints text → IfOk (pieces_at text sep) (EachOf IsPoint)
+    pieces_at-points text None p = EachOf-words IsPoint text p
+    pieces_at-points text (Some sep) p = either (EachOf IsPoint) (is_some_text sep) (Ok (pieces sep text)) (Err ValueError) (EachOf-pieces IsPoint sep text p) tt
+
+    split_valid : (text : List ℕ) (args : List Value) → ArePoints text → IfOk (split_of text args) IsValid
+    split_valid text args p =
         goes_on Any IsValid (optional_text args) (λ sep. pieces_list text sep) (any (optional_text args))
-        (λ sep u. goes_on Any IsValid (pieces_at text sep) (λ found. made (value.List (map value.Text found))) (any (pieces_at text sep)) (λ found w. made_texts found))
+        (λ sep u. goes_on (EachOf IsPoint) IsValid (pieces_at text sep) (λ found. made (value.List (map value.Text found))) (pieces_at-points text sep p) made_texts)
 
     -- ---- tuples, lists and dictionaries
 
@@ -217,33 +250,34 @@ module _ (law : ValidLaw) where
 
     -- ---- the tables
 
-    text_methods_valid : PlacesLaw → (m : Method) (text : List ℕ) (args : List Value) → length text ≤ most_weight → IfOk (text_method m text args) IsValid
-    text_methods_valid places method.Lower text args l = without_valid text l args (lower_text text) (lower_valid text l)
-    text_methods_valid places method.Upper text args l = without_valid text l args (upper_text text) (upper_valid text l)
-    text_methods_valid places method.Strip text args l = strip_valid text l Both args
-    text_methods_valid places method.Lstrip text args l = strip_valid text l Left args
-    text_methods_valid places method.Rstrip text args l = strip_valid text l Right args
-    text_methods_valid places method.Split text args l = split_valid text args
-    text_methods_valid places method.Replace text args l = replace_valid text l args
-    text_methods_valid places method.Find text args l = find_valid text l first_place (λ part. least_within part text (first_place part text) (places part text).0) args
-    text_methods_valid places method.Rfind text args l = find_valid text l last_place (λ part. greatest_within part text (last_place part text) (places part text).1) args
-    text_methods_valid places method.Index text args l = index_valid text l (λ part. least_within part text (first_place part text) (places part text).0) args
-    text_methods_valid places method.Count text args l = count_valid text l args
-    text_methods_valid places method.StartsWith text args l = fit_valid text l (λ part. begins part text) args
-    text_methods_valid places method.EndsWith text args l = fit_valid text l (λ part. ends part text) args
-    text_methods_valid places method.Join text args l = join_valid text l args
-    text_methods_valid places method.Zfill text args l = zfill_valid text l args
-    text_methods_valid places method.IsDigit text args l = without_valid text l args (digit_test text) (digits_valid text l)
-    text_methods_valid places method.Get text args l = tt
+    text_methods_valid : PlacesLaw → (m : Method) (text : List ℕ) (args : List Value) → ArePoints text → length text ≤ most_weight → AreValid args → IfOk (text_method m text args) IsValid
+    text_methods_valid places method.Lower text args p l k = without_valid text p l args (lower_text text) (lower_valid text p l)
+    text_methods_valid places method.Upper text args p l k = without_valid text p l args (upper_text text) (upper_valid text p l)
+    text_methods_valid places method.Strip text args p l k = strip_valid text p l Both args
+    text_methods_valid places method.Lstrip text args p l k = strip_valid text p l Left args
+    text_methods_valid places method.Rstrip text args p l k = strip_valid text p l Right args
+    text_methods_valid places method.Split text args p l k = split_valid text args p
+    text_methods_valid places method.Replace text args p l k = replace_valid text p l args k
+    text_methods_valid places method.Find text args p l k = find_valid text p l first_place (λ part. least_within part text (first_place part text) (places part text).0) args
+    text_methods_valid places method.Rfind text args p l k = find_valid text p l last_place (λ part. greatest_within part text (last_place part text) (places part text).1) args
+    text_methods_valid places method.Index text args p l k = index_valid text p l (λ part. least_within part text (first_place part text) (places part text).0) args
+    text_methods_valid places method.Count text args p l k = count_valid text p l args
+    text_methods_valid places method.StartsWith text args p l k = fit_valid text p l (λ part. begins part text) args
+    text_methods_valid places method.EndsWith text args p l k = fit_valid text p l (λ part. ends part text) args
+    text_methods_valid places method.Join text args p l k = join_valid text p l args k
+    text_methods_valid places method.Zfill text args p l k = zfill_valid text p l args
+    text_methods_valid places method.IsDigit text args p l k = without_valid text p l args (digit_test text) (digits_valid text p l)
+    text_methods_valid places method.Get text args p l k = tt
 
-    in_valid : PlacesLaw → (m : Method) (x : Value-F Value) (args : List Value) → Parts IsValid x → nat_le (layer_weight x) most_weight ≡ true → AreValid args → IfOk (method_in m x args) IsValid
-    in_valid places m (v.Text text) args h l k = text_methods_valid places m text args (grind (arith, nat_tests))
-    in_valid places m (v.Tuple items) args h l k = sequence_valid m items args (let w = weighs_items items in grind (arith, nat_tests))
-    in_valid places m (v.List items) args h l k = sequence_valid m items args (let w = weighs_items items in grind (arith, nat_tests))
-    in_valid places m (v.Dict pairs) args h l k = dict_valid m pairs args h k
-    in_valid places m v.Nil args h l k = tt
-    in_valid places m (v.Truth b) args h l k = tt
-    in_valid places m (v.Int n) args h l k = tt
+    in_valid : PlacesLaw → (m : Method) (x : Value-F Value) (args : List Value) → is_sound x ≡ true → Parts IsValid x → nat_le (layer_weight x) most_weight ≡ true → AreValid args
+        → IfOk (method_in m x args) IsValid
+    in_valid places m (v.Text text) args s h l k = text_methods_valid places m text args (points_of text s) (grind (arith, nat_tests)) k
+    in_valid places m (v.Tuple items) args s h l k = sequence_valid m items args (let w = weighs_items items in grind (arith, nat_tests))
+    in_valid places m (v.List items) args s h l k = sequence_valid m items args (let w = weighs_items items in grind (arith, nat_tests))
+    in_valid places m (v.Dict pairs) args s h l k = dict_valid m pairs args h k
+    in_valid places m v.Nil args s h l k = tt
+    in_valid places m (v.Truth b) args s h l k = tt
+    in_valid places m (v.Int n) args s h l k = tt
 
     pub methods_valid : PlacesLaw → MethodsLaw
-    methods_valid places m a args h k = in_valid places m (out-Value a) args (parts_of law a h) (light law a h) k
+    methods_valid places m a args h k = in_valid places m (out-Value a) args (sound_of law a h) (parts_of law a h) (light law a h) k

@@ -3,6 +3,7 @@ use Rattle.std.proofs.Common.{◌≡◌, ◌∙◌, ℕ, ◌≤◌, ◌^◌, ◌
 use Rattle.std.specs.Prelude.{if◌then◌else◌, IfOk}
 use Rattle.std.proofs.lemmas.Bool.{true≢false}
 use Rattle.std.proofs.lemmas.Bool.Decides.{nat_tests}
+use Rattle.std.proofs.lemmas.List.Sums.{list_all-from_AllPass}
 use Rattle.tx_base.specs.Width.{is_128_bit}
 use Rattle.tx_base.specs.declared.class.Class.TheVariants.{ProfileError}
 use Rattle.tx_values.specs.declared.value.Value.{Value, out-Value, roll-Value, roll-out-Value, map-Value, fold-roll-Value}
@@ -13,8 +14,9 @@ use Rattle.tx_values.specs.declared.value.Value.TheOpen as v
 use Rattle.tx_values.specs.Answer.{Answer, ◌>>=◌}
 use Rattle.tx_values.specs.Laws.{ValidLaw, is_sound}
 use Rattle.tx_values.specs.Limits.{depth, depth_step, in_limits, made, most_weight, weight, weight_of_items, weight_of_pairs, weight_step}
-use Rattle.tx_values.specs.Valid.{Parts}
+use Rattle.tx_values.specs.Valid.{Parts, is_code_point}
 use Rattle.tx_methods.specs.Laws.{AreValid, IsValid}
+use Rattle.tx_methods.proofs.CodePoints.{ArePoints}
 use Rattle.tx_methods.proofs.Layers.{opened}
 
 -- ---- answers
@@ -82,8 +84,10 @@ module _ (law : ValidLaw) where
   pub none_valid : IsValid value.Nil
   none_valid = scalar v.Nil value.Nil rolls-Nil refl refl tt
 
-  pub text_valid : (text : List ℕ) → length text ≤ most_weight → IsValid (value.Text text)
-  text_valid text h = scalar (v.Text text) (value.Text text) (rolls-Text text) (and_true (nat_le (length text) most_weight) (at_most (length text) most_weight h)) refl tt
+  pub text_valid : (text : List ℕ) → ArePoints text → length text ≤ most_weight → IsValid (value.Text text)
+  text_valid text p h =
+      scalar (v.Text text) (value.Text text) (rolls-Text text) (and_true (nat_le (length text) most_weight) (at_most (length text) most_weight h))
+      (list_all-from_AllPass is_code_point text p) tt
 
   pub list_valid : (items : List Value) → in_limits (value.List items) ≡ true → AreValid items → IsValid (value.List items)
   list_valid items l h = rolled (v.List items) (value.List items) (rolls-List items) l refl h
@@ -105,11 +109,11 @@ module _ (law : ValidLaw) where
       by_limits true e = tuple_valid items e h
       by_limits false e = tt
 
-  pub made_text_valid : (text : List ℕ) → IfOk (made (value.Text text)) IsValid
-  made_text_valid text = by_limits (in_limits (value.Text text)) refl
+  pub made_text_valid : (text : List ℕ) → ArePoints text → IfOk (made (value.Text text)) IsValid
+  made_text_valid text p = by_limits (in_limits (value.Text text)) refl
     where
       by_limits : (b : Bool) → in_limits (value.Text text) ≡ b → IfOk (if b then Ok (value.Text text) else Err ProfileError) IsValid
-      by_limits true e = rolled (v.Text text) (value.Text text) (rolls-Text text) e refl tt
+      by_limits true e = rolled (v.Text text) (value.Text text) (rolls-Text text) e (list_all-from_AllPass is_code_point text p) tt
       by_limits false e = tt
 
 -- ---- tests

@@ -1,14 +1,12 @@
 -- Laws above the definitions, each on a function that does nothing but name the laws that it stands on.
-use Rattle.std.specs.Prelude.{◌≡◌, ◌++◌, true, false, nat_lt, List, [], ◌∷◌, length, min, IfOk, IsOkAnd, Ok, Err}
-use Rattle.std.specs.List.{AllByRecursion, list_all}
+use Rattle.std.specs.Prelude.{◌≡◌, ◌++◌, true, false, List, [], ◌∷◌, length, min, IfOk, IsOkAnd, Ok, Err}
+use Rattle.std.specs.List.{AllByRecursion}
 use Rattle.tx_base.specs.declared.class.Class.TheVariants.{TypeError}
 use Rattle.tx_tree.specs.declared.function.Method.{Method}
 use Rattle.tx_tree.specs.declared.function.Builtin.{Builtin}
 use Rattle.tx_tree.specs.declared.function.Walk.{Walk}
 use Rattle.tx_tree.specs.declared.function.Walk.TheVariants as walk
-use Rattle.tx_values.specs.declared.value.Value.{Value, out-Value}
-use Rattle.tx_values.specs.declared.value.Value.TheOpen.{Value-F}
-use Rattle.tx_values.specs.declared.value.Value.TheOpen as v
+use Rattle.tx_values.specs.declared.value.Value.{Value}
 use Rattle.tx_values.specs.Order.{less}
 use Rattle.tx_values.specs.Valid.{valid}
 use Rattle.tx_tree.specs.Takes.{allows, builtin_takes, method_takes}
@@ -24,14 +22,8 @@ IsValid a = valid a ≡ true
 abbrev pub AreValid : List Value → Type 0
 AreValid values = AllByRecursion IsValid values
 
--- the characters of a text are code points; `valid` does not say so
-abbrev pub HasCodePoints : Value-F Value → Type 0
-HasCodePoints (v.Text text) = list_all (λ c. nat_lt c 0x110000) text ≡ true
-HasCodePoints _ = Unit {0}
-
 abbrev pub BuiltinsLaw : Type 0
-BuiltinsLaw = (b : Builtin) (args : List Value) → AreValid args → AllByRecursion (λ a. HasCodePoints (out-Value a)) args
-    → IfOk (builtin_of b args) IsValid
+BuiltinsLaw = (b : Builtin) (args : List Value) → AreValid args → IfOk (builtin_of b args) IsValid
 
 abbrev pub MethodsLaw : Type 0
 MethodsLaw = (m : Method) (a : Value) (args : List Value) → IsValid a → AreValid args → IfOk (method_of m a args) IsValid

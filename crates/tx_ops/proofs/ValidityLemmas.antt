@@ -1,16 +1,19 @@
 -- What an operation makes of valid values is valid.
 use Rattle.std.proofs.Common.{◌≡◌, ◌≢◌, ◌+◌, ◌≤◌, ◌&&◌, ◌++◌, ℕ, zero, suc, ℤ, pos, negsuc, Bool, true, false, List, [], ◌∷◌, Option, Some, None, Ok, Err, length, nat_le, nat_lt, slice_get, if◌then◌else◌, refl, sym, ap, subst, ◌∙◌, arith}
 use Rattle.std.specs.Prelude.{◌+ℤ◌, ◌-ℤ◌, ◌*ℤ◌, neg_ℤ, ok_or}
-use Rattle.std.specs.List.{AllByRecursion}
+use Rattle.std.specs.List.{AllByRecursion, list_all}
 use Rattle.std.specs.Result.{result_unwrap_or}
 use Rattle.std.proofs.lemmas.Bool.Decides.{nat_tests}
 use Rattle.std.proofs.lemmas.Int.{ints}
+use Rattle.std.proofs.lemmas.List.Elements.{All-from_recursion, recursion_from_All}
+use Rattle.std.proofs.lemmas.List.Sums.{AllPass-from_list_all, list_all-from_AllPass}
 use Rattle.tx_base.specs.Width.{is_128_bit}
 use Rattle.tx_base.specs.declared.class.Class.TheVariants.{ProfileError, TypeError, IndexError, KeyError}
 use Rattle.tx_num.specs.Number.{floor_quotient, floor_remainder, kept, value_or_past}
 use Rattle.tx_num.specs.Laws.{FloorLaw, LiesBetween}
 use Rattle.tx_num.specs.Place.{sliced, times_of}
 use Rattle.tx_num.specs.declared.division.Division.TheVariants as division
+use Rattle.tx_text.specs.Text.{repeated}
 use Rattle.tx_tree.specs.declared.operator.BinaryOp.{BinaryOp}
 use Rattle.tx_tree.specs.declared.operator.BinaryOp.TheVariants.{Add, Sub, Mul, FloorDiv, Mod}
 use Rattle.tx_tree.specs.declared.operator.UnaryOp.{UnaryOp}
@@ -25,7 +28,7 @@ use Rattle.tx_values.specs.Laws.{ValidLaw, is_sound}
 use Rattle.tx_values.specs.Limits.{depth, depth_step, in_limits, made, weight, weight_step}
 use Rattle.tx_values.specs.Lookup.{value_under}
 use Rattle.tx_values.specs.Operand.{Operand, number, text, tuple, list, dictionary, none, operand, operand_open}
-use Rattle.tx_values.specs.Valid.{Parts, hashable}
+use Rattle.tx_values.specs.Valid.{Parts, hashable, is_code_point}
 use Rattle.tx_ops.specs.Overflow.{int_or_overflow}
 use Rattle.tx_ops.specs.Binary.{binary_of, copies, difference, divided, product, quotient, remainder, repetition, sum}
 use Rattle.tx_ops.specs.Unary.{itself, negation, unary_of}
@@ -54,12 +57,24 @@ AllValid xs = AllByRecursion IsValid xs
 abbrev PairsValid : List (Value × Value) → Type 0
 PairsValid ps = AllByRecursion {X = Value × Value} (λ p. IsValid p.0 × IsValid p.1) ps
 
+abbrev IsPoint : ℕ → Type 0
+IsPoint c = is_code_point c ≡ true
+
+abbrev ArePoints : List ℕ → Type 0
+ArePoints s = AllByRecursion IsPoint s
+
+points_of : (s : List ℕ) → list_all is_code_point s ≡ true → ArePoints s
+points_of s e = recursion_from_All IsPoint s (AllPass-from_list_all is_code_point s e)
+
+points_are : (s : List ℕ) → ArePoints s → list_all is_code_point s ≡ true
+points_are s h = list_all-from_AllPass is_code_point s (All-from_recursion IsPoint s h)
+
 abbrev Within : ℕ → ℕ → Type 0
 Within w d = (w ≤ 1048576) × (d ≤ 16)
 
 abbrev Sound : Operand → Type 0
 Sound (number n) = is_128_bit n ≡ true
-Sound (text s) = Within (length s) 0
+Sound (text s) = Within (length s) 0 × ArePoints s
 Sound (tuple xs) = Within (weights xs) (1 + depths xs) × AllValid xs
 Sound (list xs) = Within (weights xs) (1 + depths xs) × AllValid xs
 Sound (dictionary ps) = PairsValid ps
@@ -82,7 +97,7 @@ sound_layer v.Nil w s p = tt
 sound_layer (v.Truth true) w s p = refl
 sound_layer (v.Truth false) w s p = refl
 sound_layer (v.Int n) w s p = s
-sound_layer (v.Text t) w s p = w
+sound_layer (v.Text t) w s p = (w, points_of t s)
 sound_layer (v.Tuple xs) w s p = (w, p)
 sound_layer (v.List xs) w s p = (w, p)
 sound_layer (v.Dict ps) w s p = p
@@ -122,8 +137,8 @@ module _ (by_parts : ValidLaw) where
       go true h e = subst IsValid (ok_same (Int z) r e) (int_valid z h)
       go false h e = cc
 
-  text_valid : (s : List ℕ) (r : Value) → in_limits (Text s) ≡ true → Text s ≡ r → IsValid r
-  text_valid s r l e = subst IsValid e (valid_from (Text s) (v.Text s) (outs-Text s) l refl tt)
+  text_valid : (s : List ℕ) (r : Value) → ArePoints s → in_limits (Text s) ≡ true → Text s ≡ r → IsValid r
+  text_valid s r h l e = subst IsValid e (valid_from (Text s) (v.Text s) (outs-Text s) l (points_are s h) tt)
 
   tuple_valid : (xs : List Value) (r : Value) → AllValid xs → in_limits (Tuple xs) ≡ true → Tuple xs ≡ r → IsValid r
   tuple_valid xs r h l e = subst IsValid e (valid_from (Tuple xs) (v.Tuple xs) (outs-Tuple xs) l refl h)
@@ -131,8 +146,8 @@ module _ (by_parts : ValidLaw) where
   list_valid : (xs : List Value) (r : Value) → AllValid xs → in_limits (Listed xs) ≡ true → Listed xs ≡ r → IsValid r
   list_valid xs r h l e = subst IsValid e (valid_from (Listed xs) (v.List xs) (outs-List xs) l refl h)
 
-  made_text : (s : List ℕ) (r : Value) → made (Text s) ≡ Ok r → IsValid r
-  made_text s r e = let told = made_is (Text s) r e in text_valid s r told.0 told.1
+  made_text : (s : List ℕ) (r : Value) → ArePoints s → made (Text s) ≡ Ok r → IsValid r
+  made_text s r h e = let told = made_is (Text s) r e in text_valid s r h told.0 told.1
 
   made_tuple : (xs : List Value) (r : Value) → AllValid xs → made (Tuple xs) ≡ Ok r → IsValid r
   made_tuple xs r h e = let told = made_is (Tuple xs) r e in tuple_valid xs r h told.0 told.1
@@ -144,7 +159,7 @@ module _ (by_parts : ValidLaw) where
 
   sum_valid : (x y : Operand) → Sound x → Sound y → (r : Value) → sum x y ≡ Ok r → IsValid r
   sum_valid (number m) (number n) h k r e = kept_valid (m +ℤ n) r e
-  sum_valid (text s) (text t) h k r e = made_text (s ++ t) r e
+  sum_valid (text s) (text t) h k r e = made_text (s ++ t) r (all_append IsPoint s t h.1 k.1) e
   sum_valid (tuple xs) (tuple ys) h k r e = made_tuple (xs ++ ys) r (all_append IsValid xs ys h.1 k.1) e
   sum_valid (list xs) (list ys) h k r e = made_list (xs ++ ys) r (all_append IsValid xs ys h.1 k.1) e
   sum_valid _ _ h k r e = cc
@@ -157,14 +172,18 @@ module _ (by_parts : ValidLaw) where
   all_copies zero xs h = tt
   all_copies (suc times) xs h = all_append IsValid xs (copies times xs) h (all_copies times xs h)
 
+  all_repeated : (times : ℕ) (s : List ℕ) → ArePoints s → ArePoints (repeated times s)
+  all_repeated zero s h = tt
+  all_repeated (suc times) s h = all_append IsPoint s (repeated times s) h (all_repeated times s h)
+
   repetition_valid : (f : ℕ → Value) → ((times : ℕ) (r : Value) → made (f times) ≡ Ok r → IsValid r) → (o : Option ℕ) (r : Value) → repetition o f ≡ Ok r → IsValid r
   repetition_valid f h None r e = cc
   repetition_valid f h (Some times) r e = h times r e
 
   product_valid : (x y : Operand) → Sound x → Sound y → (r : Value) → product x y ≡ Ok r → IsValid r
   product_valid (number m) (number n) h k r e = kept_valid (m *ℤ n) r e
-  product_valid (text s) (number n) h k r e = repetition_valid _ (λ times r e. made_text _ r e) (times_of n) r e
-  product_valid (number n) (text s) h k r e = repetition_valid _ (λ times r e. made_text _ r e) (times_of n) r e
+  product_valid (text s) (number n) h k r e = repetition_valid _ (λ times r e. made_text (repeated times s) r (all_repeated times s h.1) e) (times_of n) r e
+  product_valid (number n) (text s) h k r e = repetition_valid _ (λ times r e. made_text (repeated times s) r (all_repeated times s k.1) e) (times_of n) r e
   product_valid (tuple xs) (number n) h k r e = repetition_valid _ (λ times r e. made_tuple (copies times xs) r (all_copies times xs h.1) e) (times_of n) r e
   product_valid (number n) (tuple xs) h k r e = repetition_valid _ (λ times r e. made_tuple (copies times xs) r (all_copies times xs k.1) e) (times_of n) r e
   product_valid (list xs) (number n) h k r e = repetition_valid _ (λ times r e. made_list (copies times xs) r (all_copies times xs h.1) e) (times_of n) r e
@@ -228,27 +247,29 @@ module _ (by_parts : ValidLaw) where
 
   -- ---- items
 
-  all_at : (xs : List Value) (place : ℕ) (r : Value) → AllValid xs → ◌≡◌ {A = Answer Value} (ok_or (slice_get xs place) IndexError) (Ok r) → IsValid r
-  all_at [] place r h e = cc
-  all_at (x ∷ xs) zero r h e = subst IsValid (ok_same x r e) h.0
-  all_at (x ∷ xs) (suc place) r h e = all_at xs place r h.1 e
+  -- what holds of all items holds of the one that is asked for
+  module _ {A : Type 0} (P : A → Type 0) where
+    all_at : (xs : List A) (place : ℕ) (x : A) → AllByRecursion P xs → ◌≡◌ {A = Answer A} (ok_or (slice_get xs place) IndexError) (Ok x) → P x
+    all_at [] place x h e = cc
+    all_at (y ∷ xs) zero x h e = subst P (ok_same y x e) h.0
+    all_at (y ∷ xs) (suc place) x h e = all_at xs place x h.1 e
 
-  item_valid : (xs : List Value) (at : Operand) (r : Value) → AllValid xs → item_at xs at ≡ Ok r → IsValid r
-  item_valid xs at r h e = go (place_at (length xs) at) e
+    item_all : (xs : List A) (at : Operand) (x : A) → AllByRecursion P xs → item_at xs at ≡ Ok x → P x
+    item_all xs at x h e = go (place_at (length xs) at) e
+      where
+        go : (o : Answer ℕ) → (o >>= (λ place. ok_or (slice_get xs place) IndexError)) ≡ Ok x → P x
+        go (Err c) e = cc
+        go (Ok place) e = all_at xs place x h e
+
+  one_character : (c : ℕ) (r : Value) → IsPoint c → ◌≡◌ {A = Answer Value} (Ok (Text (c ∷ []))) (Ok r) → IsValid r
+  one_character c r h e = text_valid (c ∷ []) r (h, tt) (rw (weight_text (c ∷ []), depth_text (c ∷ [])) refl) (ok_same (Text (c ∷ [])) r e)
+
+  character_valid : (s : List ℕ) (at : Operand) (r : Value) → ArePoints s → character_at s at ≡ Ok r → IsValid r
+  character_valid s at r h e = go (item_at s at) (λ c d. item_all IsPoint s at c h d) e
     where
-      go : (o : Answer ℕ) → (o >>= (λ place. ok_or (slice_get xs place) IndexError)) ≡ Ok r → IsValid r
-      go (Err c) e = cc
-      go (Ok place) e = all_at xs place r h e
-
-  one_character : (c : ℕ) (r : Value) → ◌≡◌ {A = Answer Value} (Ok (Text (c ∷ []))) (Ok r) → IsValid r
-  one_character c r e = text_valid (c ∷ []) r (rw (weight_text (c ∷ []), depth_text (c ∷ [])) refl) (ok_same (Text (c ∷ [])) r e)
-
-  character_valid : (s : List ℕ) (at : Operand) (r : Value) → character_at s at ≡ Ok r → IsValid r
-  character_valid s at r e = go (item_at s at) e
-    where
-      go : (o : Answer ℕ) → (o >>= (λ c. Ok (Text (c ∷ [])))) ≡ Ok r → IsValid r
-      go (Err c) e = cc
-      go (Ok c) e = one_character c r e
+      go : (o : Answer ℕ) → ((c : ℕ) → o ≡ Ok c → IsPoint c) → (o >>= (λ c. Ok (Text (c ∷ [])))) ≡ Ok r → IsValid r
+      go (Err c) k e = cc
+      go (Ok c) k e = one_character c r (k c refl) e
 
   under_valid : (key : Value) (ps : List (Value × Value)) (r : Value) → PairsValid ps → ◌≡◌ {A = Answer Value} (ok_or (value_under key ps) KeyError) (Ok r) → IsValid r
   under_valid key [] r h e = cc
@@ -266,9 +287,9 @@ module _ (by_parts : ValidLaw) where
       go false e = cc
 
   index_valid : (x : Operand) → Sound x → (at r : Value) → index_in x at ≡ Ok r → IsValid r
-  index_valid (text s) h at r e = character_valid s (operand at) r e
-  index_valid (tuple xs) h at r e = item_valid xs (operand at) r h.1 e
-  index_valid (list xs) h at r e = item_valid xs (operand at) r h.1 e
+  index_valid (text s) h at r e = character_valid s (operand at) r h.1 e
+  index_valid (tuple xs) h at r e = item_all IsValid xs (operand at) r h.1 e
+  index_valid (list xs) h at r e = item_all IsValid xs (operand at) r h.1 e
   index_valid (dictionary ps) h at r e = value_valid ps at r h e
   index_valid (number n) h at r e = cc
   index_valid none h at r e = cc
@@ -278,11 +299,11 @@ module _ (by_parts : ValidLaw) where
   bound_within : (w d u e : ℕ) → w ≤ u → d ≤ e → Within u e → Within w d
   bound_within w d u e h k l = let a : u ≤ 1048576 = l.0 in let b : e ≤ 16 = l.1 in (omega arith, omega arith)
 
-  text_part : (s : List ℕ) → Within (length s) 0 → (start stop : Option ℤ) (r : Value) → ◌≡◌ {A = Answer Value} (Ok (Text (sliced (pos 1) start stop s))) (Ok r) → IsValid r
-  text_part s h start stop r e =
+  text_part : (s : List ℕ) → Within (length s) 0 → ArePoints s → (start stop : Option ℤ) (r : Value) → ◌≡◌ {A = Answer Value} (Ok (Text (sliced (pos 1) start stop s))) (Ok r) → IsValid r
+  text_part s h all start stop r e =
       let t : List ℕ = sliced (pos 1) start stop s in
       let part : Within (length t) 0 = bound_within (length t) 0 (length s) 0 (length_sliced start stop s) (omega arith) h in
-      text_valid t r (rw (weight_text t, depth_text t) (within_is (length t) 0 part)) (ok_same (Text t) r e)
+      text_valid t r (all_sliced IsPoint start stop s all) (rw (weight_text t, depth_text t) (within_is (length t) 0 part)) (ok_same (Text t) r e)
 
   items_part : (xs : List Value) → Within (weights xs) (1 + depths xs) → (start stop : Option ℤ) → Within (weights (sliced (pos 1) start stop xs)) (1 + depths (sliced (pos 1) start stop xs))
   items_part xs h start stop =
@@ -307,7 +328,7 @@ module _ (by_parts : ValidLaw) where
     by_bounds (Ok i) (Ok j) r e = each i j r e
 
   slice_valid : (x : Operand) → Sound x → (from to : Option Value) (r : Value) → slice_in x from to ≡ Ok r → IsValid r
-  slice_valid (text s) h from to r e = by_bounds s Text (text_part s h) (bound_of from) (bound_of to) r e
+  slice_valid (text s) h from to r e = by_bounds s Text (text_part s h.0 h.1) (bound_of from) (bound_of to) r e
   slice_valid (tuple xs) h from to r e = by_bounds xs Tuple (tuple_part xs h.0 h.1) (bound_of from) (bound_of to) r e
   slice_valid (list xs) h from to r e = by_bounds xs Listed (list_part xs h.0 h.1) (bound_of from) (bound_of to) r e
   slice_valid (dictionary ps) h from to r e = cc

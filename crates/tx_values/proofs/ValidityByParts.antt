@@ -110,7 +110,7 @@ sound (v.Tuple xs) r k = refl
 sound (v.List xs) r k = refl
 sound v.Nil r k = refl
 sound (v.Truth b) r k = refl
-sound (v.Text s) r k = refl
+sound (v.Text s) r k = r
 
 layer_ranged : (x : Value-F Value) → Yes (is_sound x) → Parts Valid x → Yes (ranged_layer x)
 layer_ranged (v.Int n) s h = s
@@ -119,7 +119,7 @@ layer_ranged (v.List xs) s h = items_ranged xs h
 layer_ranged (v.Dict ps) s h = pairs_ranged ps h
 layer_ranged v.Nil s h = refl
 layer_ranged (v.Truth b) s h = refl
-layer_ranged (v.Text t) s h = refl
+layer_ranged (v.Text t) s h = s
 
 layer_keyed : (x : Value-F Value) → Yes (is_sound x) → Parts Valid x → Yes (keyed_layer x)
 layer_keyed (v.Tuple xs) s h = items_keyed xs h

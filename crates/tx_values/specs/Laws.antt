@@ -9,7 +9,7 @@ use Rattle.tx_values.specs.declared.value.Value.TheOpen as v
 use Rattle.tx_values.specs.Limits.{weight, depth, in_limits}
 use Rattle.tx_values.specs.Equality.{equal}
 use Rattle.tx_values.specs.Order.{less}
-use Rattle.tx_values.specs.Valid.{Parts, distinct, hashable, keyed, valid}
+use Rattle.tx_values.specs.Valid.{Parts, distinct, hashable, is_code_point, keyed, valid}
 use Rattle.tx_values.specs.Keys.{key_input, key_of, same_key}
 
 -- ---- a value is valid where it is within the limits and its parts are valid
@@ -17,6 +17,7 @@ use Rattle.tx_values.specs.Keys.{key_input, key_of, same_key}
 -- what is asked of a layer beside that
 abbrev pub is_sound : Value-F Value → Bool
 is_sound (v.Int n) = is_128_bit n
+is_sound (v.Text text) = list_all is_code_point text
 is_sound (v.Dict pairs) = list_all hashable (map (λ p. p.0) pairs) && distinct (map (λ p. p.0) pairs)
 is_sound _ = true
 

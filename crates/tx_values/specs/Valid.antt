@@ -1,5 +1,5 @@
 -- Which values are hashable, and which are valid.
-use Rattle.std.specs.Prelude.{Bool, true, false, not, ◌&&◌, List, [], ◌∷◌, map}
+use Rattle.std.specs.Prelude.{ℕ, Bool, true, false, not, nat_lt, ◌&&◌, List, [], ◌∷◌, map}
 use Rattle.std.specs.List.{AllByRecursion, list_any, list_all}
 use Rattle.tx_base.specs.Width.{is_128_bit}
 use Rattle.tx_values.specs.declared.value.Value.{Value, fold-Value, para-Value}
@@ -53,9 +53,17 @@ keyed_step _ = true
 abbrev pub keyed : Value → Bool
 keyed = para-Value Bool keyed_step
 
--- each integer is one of 128 bits
+-- the code points are the numbers below this one (the last is Python's `sys.maxunicode`)
+abbrev pub code_point_end : ℕ
+code_point_end = 0x110000
+
+abbrev pub is_code_point : ℕ → Bool
+is_code_point c = nat_lt c code_point_end
+
+-- each integer is one of 128 bits, and each character of a text a code point, at every depth
 abbrev pub ranged_step : Value-F Bool → Bool
 ranged_step (v.Int n) = is_128_bit n
+ranged_step (v.Text text) = list_all is_code_point text
 ranged_step (v.Tuple parts) = list_all (λ b. b) parts
 ranged_step (v.List parts) = list_all (λ b. b) parts
 ranged_step (v.Dict pairs) = list_all (λ p. p.0 && p.1) pairs
@@ -64,6 +72,7 @@ ranged_step _ = true
 abbrev pub ranged : Value → Bool
 ranged = fold-Value Bool ranged_step
 
--- a value of the language: within the limits, its integers of 128 bits, its keys hashable and pairwise unequal
+-- a value of the language: within the limits, its integers of 128 bits, its texts of code points, its keys hashable and
+-- pairwise unequal
 abbrev pub valid : Value → Bool
 valid a = in_limits a && (ranged a && keyed a)
