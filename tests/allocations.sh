@@ -4,7 +4,7 @@
 # The first allocations are those of the test's own words and files: there nothing runs, and nothing is seen.
 # Some 15 seconds a run.
 set -u
-cd "$(dirname "$0")/../crates/tuplex_run" || exit 1
+cd "$(dirname "$0")/../crates/run_vectors" || exit 1
 refused=0
 ended=0
 for number in $(seq 1 300); do

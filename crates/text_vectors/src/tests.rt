@@ -1,5 +1,8 @@
-// Tables of calls and what CPython answers, one test for each.
+// Tables of calls and what CPython answers, one test for each; and lists, bytes and long texts.
+mod added;
 mod ends;
+mod lists;
+mod long;
 mod made;
 mod parts;
 mod pieces;

@@ -20,6 +20,3 @@ pub use outcome::{Outcome, status};
 
 /// The words behind the program's own name.
 pub type Words = tx_text::Texts;
-
-#[cfg(test)]
-mod tests;

@@ -8,6 +8,3 @@ mod steps;
 pub use class::{Class, catches, class_name, class_named, classes_are_a_tree};
 pub use meter::Meter;
 pub use steps::{Steps, step};
-
-#[cfg(test)]
-mod tests;

@@ -15,6 +15,3 @@ pub use place::{place_of, places_are_as_in_python, slice_start, slice_stop, time
 pub use print::{print_int, printed_ints_read_back};
 pub use range::{MOST_ITEMS, RangeLength, range_length, ranges_stop_before_the_end};
 pub use read::{IntRead, read_int};
-
-#[cfg(test)]
-mod tests;

@@ -16,6 +16,3 @@ pub use place::{CallError, Place};
 pub use real_console::RealConsole;
 pub use real_place::RealPlace;
 pub use whole::{ReadError, read_all};
-
-#[cfg(test)]
-mod tests;

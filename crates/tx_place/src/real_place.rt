@@ -128,37 +128,3 @@ impl<R: Files + Drop> Place for RealPlace<R> {
         Err(CallError::Failed)
     }
 }
-
-#[cfg(test)]
-mod tests {
-    use super::*;
-    use crate::tests::answers;
-    use std::test::Fail;
-    use tx_text::{Bytes, NoMemory};
-
-    const CALLS: &str = "\
-write real_place.tmp abc de, read real_place.tmp 0, read real_place.tmp 4, read real_place.tmp 5, \
-read real_place.tmp 9, whole real_place.tmp 5, whole real_place.tmp 4, read absent.tmp 0, create absent/x.tmp, \
-create real_place.tmp, read real_place.tmp 0, write real_place.tmp x y, whole real_place.tmp 9";
-
-    const ANSWERS: &str = "\
-ok, abcd, e, , , abcde, too large, failed, failed, ok, , ok, xy, ";
-
-    // Whether the calls have their answers, and each fault raised its count.
-    fn files_are_kept<R: Files + Drop>(alloc: Global, files: R) -> Result<bool, NoMemory> {
-        let mut place = RealPlace::new(alloc, files);
-        let mut said = Bytes::new(alloc);
-        answers(alloc, &mut place, CALLS, &mut said)?;
-        Ok(
-            said.as_slice() == ANSWERS.as_bytes()
-                && place.read_faults == 1
-                && place.write_faults == 1,
-        )
-    }
-
-    #[test]
-    fn files_are_kept_and_faults_counted(rt: HostRuntime) -> Result<(), Fail> {
-        assert!(rt; files_are_kept(rt.alloc(), &rt)?);
-        Ok(())
-    }
-}

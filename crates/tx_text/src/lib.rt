@@ -23,6 +23,3 @@ pub use sequence::{Bytes, Numbers, Sequence, Texts};
 pub use split::{pieces_are_the_text, pieces_end_at_first_places, words_stand_between_blanks};
 pub use strip::{Side, is_blank, stripped_ends_are_clean};
 pub use text::{PyText, Utf8Fault, examples_hold};
-
-#[cfg(test)]
-mod tests;

@@ -2,7 +2,8 @@
 ghost use Rattle.tx_values.specs.Laws.{HashLaw, HashableLaw, IsNumber, IsText, KeysLaw, LessLeftLaw, LessRightLaw, LessTransitiveLaw, PartsLaw, ReflexiveLaw, SameKeyLaw, SymmetricLaw, TransitiveLaw, TrichotomyLaw, ValidLaw};
 
 /// A value is valid exactly where it is within the limits, its parts are valid, and, if it is an integer, it has 128 bits,
-/// and if it is a dictionary, its keys are hashable and no two of them are equal.
+/// if it is a text, its characters are code points, and if it is a dictionary, its keys are hashable and no two of them are
+/// equal.
 pub fn validity_goes_by_parts()
     ensures { ValidLaw }
 {}

@@ -23,6 +23,3 @@ pub use lookup::value_under;
 pub use order::less;
 pub use row::{Mark, Names, Naming, Origin, Origins, Row, RowLists, Rows, copy_row};
 pub use value::{Items, OpError, Pairs, Value};
-
-#[cfg(test)]
-mod tests;

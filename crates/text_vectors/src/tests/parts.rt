@@ -37,6 +37,15 @@ char_at;aß€\u{1F600};3;\u{1F600}
 char_at;aß€\u{1F600};4;~
 char_at;;0;~
 char_at;e\u{301};1;\u{301}
+char_at;aß€;0;a
+char_at;aß€;1;ß
+char_at;aß€;2;€
+char_at;aß€;3;~
+char_at;abcdefghijklmnopqrstuvwxyz;25;z
+char_at;abcdefghijklmnopqrstuvwxyz;26;~
+char_at;abcdefghijklmnopqrstuvwxyß;25;ß
+char_at;€€€€€€€€é;8;é
+char_at;€€€€€€€€é;9;~
 slice;abc;0:2;ab
 slice;abc;1:;bc
 slice;abc;2:1;
@@ -84,6 +93,6 @@ pub(crate) fn part_holds(alloc: Global, row: &str) -> Result<bool, NoMemory> {
 
 #[test]
 fn parts_hold(rt: HostRuntime) -> Result<(), Fail> {
-    each_row_holds(&rt, rt.alloc(), ROWS, 40)?;
+    each_row_holds(&rt, rt.alloc(), ROWS, 49)?;
     Ok(())
 }

@@ -1,6 +1,7 @@
 // Rows of the tables: cells with `;` between them, a method first. In a cell `¶` stands for a line feed, and `~` for none.
 ghost use Rattle.std.specs.Prelude.{◌≡◌, ◌∷◌, [], IfOk};
 
+use crate::tests::added::added_holds;
 use crate::tests::ends::end_holds;
 use crate::tests::made::made_holds;
 use crate::tests::parts::part_holds;
@@ -54,6 +55,7 @@ fn holds(alloc: Global, row: &str) -> Result<bool, NoMemory> {
         "split_on" | "split_blank" => pieces_hold(alloc, row),
         "strip" | "lstrip" | "rstrip" => end_holds(alloc, row),
         "upper" | "lower" | "slice" | "char_at" => part_holds(alloc, row),
+        "added" => added_holds(alloc, row),
         "concat" | "repeat" | "join" | "zfill" | "replace" => made_holds(alloc, row),
         _ => Ok(false),
     }

@@ -1,4 +1,0 @@
-use Rattle.tx_base.proofs.tests.two_steps.Given as goal
-
-abbrev pub ghosts-stepped : goal.ghosts-stepped
-ghosts-stepped a = record { name = a.blank.name; parts = a.blank.parts }

@@ -1,0 +1,10 @@
+// Classes and steps, integers, and values as a caller makes them.
+mod classes;
+mod integers;
+mod keys;
+mod limits;
+mod lookup;
+mod order;
+mod rows;
+mod same;
+mod written;
