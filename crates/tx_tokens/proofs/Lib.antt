@@ -1,4 +1,5 @@
 pub mod Slices
+pub mod SplitLemmas
 pub mod LineLemmas
 pub mod WordLemmas
 pub mod IntegerLemmas

@@ -1,127 +1,75 @@
 -- The first line of a text.
-use Rattle.std.proofs.Common.{◌≡◌, ◌∙◌, ◌==◌, ◌&&◌, inl, inr, ℕ, suc, ◌+◌, ◌<◌, ◌≤◌, Bool, true, false, List, [], ◌∷◌, length, take, drop, ap, refl, sym, arith, if◌then◌else◌, one-add, eq-eqb, length-take, length-drop}
-use Rattle.std.proofs.lemmas.Bool.{cases_Bool, and_parts, ne_eqb, eqb-false}
-use Rattle.tx_tokens.specs.Lines.{Line, carriage_return, onto_first_line, is_line_feed_alone, line_feed, lines, longer_line}
-use Rattle.tx_tokens.specs.Calls.Walking.{content_len, ending_len}
+use Rattle.std.proofs.Common.{◌≡◌, ◌≢◌, ◌∙◌, ◌==◌, ◌&&◌, inl, inr, ℕ, suc, ◌+◌, ◌<◌, true, false, List, [], ◌∷◌, ◌++◌, length, length-append, ap, refl, subst, arith}
+use Rattle.std.specs.Str.{NonePass}
+use Rattle.std.proofs.lemmas.Bool.{and_parts, cases_Bool, eqb-true}
+use Rattle.tx_tokens.specs.Lines.{Line, carriage_return, is_empty, is_line_feed_alone, line_feed, lines, longer_line, onto_first_line}
+use Rattle.tx_tokens.specs.Calls.Walking.{fed}
 
-abbrev behind : List ℕ → List ℕ
-behind text = drop (content_len text) text
+-- ---- one character more in front of a line
 
--- ---- the walk over the content
+longer_plain : (c : ℕ) (l : Line) → is_line_feed_alone l ≡ false → longer_line c l ≡ record { content = c ∷ l.content; ending = l.ending }
+longer_plain c l h = elim (cases_Bool (c == carriage_return)) [ inl is ↦ rw (is, h) refl | inr other ↦ rw other refl ]
 
-pub content_more : (text more : List ℕ) (c : ℕ) → text ≡ c ∷ more → ending_len text ≡ 0 → behind text ≡ behind more
-content_more text more c e h =
-    let none : (ending_len (c ∷ more) == 0) ≡ true = eq-eqb (ending_len (c ∷ more)) 0 (ap ending_len (sym e) ∙ h) in
-    rw (e, none, one-add) refl
+two_alone : (content : List ℕ) → is_line_feed_alone (record { content = content; ending = 2 }) ≡ false
+two_alone [] = refl
+two_alone (c ∷ content) = refl
 
-pub content_here : (text more : List ℕ) (c n : ℕ) → text ≡ c ∷ more → ending_len text ≡ n → 0 < n → text ≡ behind text
-content_here text more c n e h some =
-    let l : ending_len (c ∷ more) ≡ n = ap ending_len (sym e) ∙ h in
-    let is : (ending_len (c ∷ more) == 0) ≡ false = ne_eqb (ending_len (c ∷ more)) 0 (λ z. absurd (omega arith)) in
-    rw (e, is) refl
+-- ---- what stands before a line feed
 
-pub content_end : (text : List ℕ) → text ≡ [] → text ≡ behind text
-content_end text e = rw e refl
+pub fed_return : (content : List ℕ) → fed (content ++ carriage_return ∷ []) ≡ record { content = content; ending = 2 }
+fed_return [] = refl
+fed_return (c ∷ content) = ap (longer_line c) (fed_return content) ∙ longer_plain c (record { content = content; ending = 2 }) (two_alone content)
+
+pub fed_plain : (text : List ℕ) → ((front : List ℕ) → text ≢ front ++ carriage_return ∷ []) → fed text ≡ record { content = text; ending = 1 }
+fed_plain [] h = refl
+fed_plain (c ∷ []) h = elim (cases_Bool (c == carriage_return)) [
+  | inl is ↦ absurd (h [] (ap (λ x. x ∷ []) (eqb-true c carriage_return is)))
+  | inr other ↦ rw other refl
+]
+fed_plain (c ∷ d ∷ text) h =
+    ap (longer_line c) (fed_plain (d ∷ text) (λ front e. h (c ∷ front) (ap (λ t. c ∷ t) e))) ∙ longer_plain c (record { content = d ∷ text; ending = 1 }) refl
 
 -- ---- the first line
 
-abbrev first_of : List ℕ → Line
-first_of text = record { content = take (content_len text) text; ending = ending_len (behind text) }
+abbrev NoFeed : List ℕ → Type 0
+NoFeed text = NonePass (λ c. c == line_feed) text
 
-abbrev rest_of : List ℕ → List ℕ
-rest_of text = drop (ending_len (behind text)) (behind text)
+pub line_fed : (before behind : List ℕ) → NoFeed before → lines (before ++ line_feed ∷ behind) ≡ fed before ∷ lines behind
+line_fed [] behind h = refl
+line_fed (c ∷ before) behind h = rw h.0 (ap (onto_first_line c) (line_fed before behind h.1))
 
-at_feed : (c : ℕ) (text : List ℕ) → (c == line_feed) ≡ true → lines (c ∷ text) ≡ first_of (c ∷ text) ∷ lines (rest_of (c ∷ text))
-at_feed c [] is = rw (is, is) refl
-at_feed c (d ∷ text) is = rw (is, is) refl
+pub line_last : (c : ℕ) (text : List ℕ) → NoFeed (c ∷ text) → lines (c ∷ text) ≡ (record { content = c ∷ text; ending = 0 }) ∷ []
+line_last c [] h = rw h.0 refl
+line_last c (d ∷ text) h =
+    rw h.0 (ap (onto_first_line c) (line_last d text h.1) ∙ ap (λ l. l ∷ []) (longer_plain c (record { content = d ∷ text; ending = 0 }) refl))
 
-both_ends : (c d : ℕ) (text : List ℕ) → (c == line_feed) ≡ false → (c == carriage_return) ≡ true → (d == line_feed) ≡ true
-    → lines (c ∷ d ∷ text) ≡ first_of (c ∷ d ∷ text) ∷ lines (rest_of (c ∷ d ∷ text))
-both_ends c d text other return feed = rw (other, return, feed, other, return, feed) refl
+none_size : (content : List ℕ) → is_empty content ≡ true → length content ≡ 0
+none_size [] h = refl
+none_size (c ∷ content) h = absurd (cc)
 
--- a line that begins with another character than a line feed does not end by one alone with nothing before it
-not_alone : (d : ℕ) (text : List ℕ) → (d == line_feed) ≡ false → is_line_feed_alone (first_of (d ∷ text)) ≡ false
-not_alone d [] other = rw other refl
-not_alone d (x ∷ text) other = elim (cases_Bool ((d == carriage_return) && (x == line_feed))) [
-  | inl both ↦ rw (other, both, other, both) refl
-  | inr apart ↦ rw (other, apart, one-add) refl
+alone_size : (l : Line) → is_line_feed_alone l ≡ true → length l.content + l.ending ≡ 1
+alone_size l h =
+    let parts = and_parts (is_empty l.content) (l.ending == 1) h in
+    omega (arith, none_size l.content parts.0, eqb-true l.ending 1 parts.1)
+
+pub fed_size : (text : List ℕ) → length (fed text).content + (fed text).ending ≡ length text + 1
+fed_size [] = refl
+fed_size (c ∷ text) = elim (cases_Bool ((c == carriage_return) && is_line_feed_alone (fed text))) [
+  | inl both ↦ rw both (omega (arith, alone_size (fed text) (and_parts (c == carriage_return) (is_line_feed_alone (fed text)) both).1, fed_size text))
+  | inr apart ↦ rw apart (omega (arith, fed_size text))
 ]
 
-no_end : (c d : ℕ) (text : List ℕ) → ((c == carriage_return) && (d == line_feed)) ≡ false → (d == line_feed) ≡ false → ((c == carriage_return) && is_line_feed_alone (first_of (d ∷ text))) ≡ false
-no_end c d text apart other = rw (not_alone d text other) (by (c == carriage_return))
-  where
-    by : (b : Bool) → (b && false) ≡ false
-    by true = refl
-    by false = refl
+-- ---- a line that a function answers
 
-stays : (c d : ℕ) (text : List ℕ) → ((c == carriage_return) && (d == line_feed)) ≡ false → ((c == carriage_return) && is_line_feed_alone (first_of (d ∷ text))) ≡ false
-stays c d text apart = elim (cases_Bool (d == line_feed)) [
-  | inl feed ↦ rw (by (c == carriage_return) (d == line_feed) apart feed) refl
-  | inr other ↦ no_end c d text apart other
-]
-  where
-    by : (a b : Bool) → (a && b) ≡ false → b ≡ true → a ≡ false
-    by true true e f = sym f ∙ (f ∙ e)
-    by true false e f = absurd (cc)
-    by false b e f = refl
+module _ (text line behind content : List ℕ) (ending : ℕ) (e : text ≡ line ++ line_feed ∷ behind) (f : fed line ≡ record { content = content; ending = ending }) where
+  pub line_is : NoFeed line → lines text ≡ (record { content = content; ending = ending }) ∷ lines behind
+  line_is plain = ap lines e ∙ (line_fed line behind plain ∙ ap (λ l. l ∷ lines behind) f)
 
-one_more : (c d : ℕ) (text : List ℕ) → (c == line_feed) ≡ false → ((c == carriage_return) && (d == line_feed)) ≡ false
-    → lines (d ∷ text) ≡ first_of (d ∷ text) ∷ lines (rest_of (d ∷ text))
-    → lines (c ∷ d ∷ text) ≡ first_of (c ∷ d ∷ text) ∷ lines (rest_of (c ∷ d ∷ text))
-one_more c d text other apart e =
-    let longer : longer_line c (first_of (d ∷ text)) ≡ record { content = c ∷ take (content_len (d ∷ text)) (d ∷ text); ending = ending_len (behind (d ∷ text)) } = rw (stays c d text apart) refl in
-    let left : lines (c ∷ d ∷ text) ≡ longer_line c (first_of (d ∷ text)) ∷ lines (rest_of (d ∷ text)) = ap (λ b. if b then (record { content = []; ending = 1 }) ∷ lines (d ∷ text) else onto_first_line c (lines (d ∷ text))) other ∙ ap (onto_first_line c) e in
-    let len : content_len (c ∷ d ∷ text) ≡ suc (content_len (d ∷ text)) = rw (other, apart) (one-add _) in
-    left ∙ (ap (λ l. l ∷ lines (rest_of (d ∷ text))) longer
-    ∙ ap (λ n. (record { content = take n (c ∷ d ∷ text); ending = ending_len (drop n (c ∷ d ∷ text)) }) ∷ lines (drop (ending_len (drop n (c ∷ d ∷ text))) (drop n (c ∷ d ∷ text)))) (sym len))
+  pub line_sizes : length text ≡ length content + ending + length behind
+  line_sizes = omega (arith, ap length e, length-append line (line_feed ∷ behind), fed_size line, ap (λ l. length l.content + l.ending) f)
 
-past : (c d : ℕ) (text : List ℕ) → (c == line_feed) ≡ false → lines (d ∷ text) ≡ first_of (d ∷ text) ∷ lines (rest_of (d ∷ text))
-    → lines (c ∷ d ∷ text) ≡ first_of (c ∷ d ∷ text) ∷ lines (rest_of (c ∷ d ∷ text))
-past c d text other e = elim (cases_Bool ((c == carriage_return) && (d == line_feed))) [
-  | inl both ↦ both_ends c d text other (and_parts _ _ both).0 (and_parts _ _ both).1
-  | inr apart ↦ one_more c d text other apart e
-]
+  pub line_some : 0 < length content + ending
+  line_some = omega (arith, fed_size line, ap (λ l. length l.content + l.ending) f)
 
-pub first_is : (c : ℕ) (text : List ℕ) → lines (c ∷ text) ≡ first_of (c ∷ text) ∷ lines (rest_of (c ∷ text))
-first_is c [] = elim (cases_Bool (c == line_feed)) [ inl is ↦ at_feed c [] is | inr other ↦ rw other refl ]
-first_is c (d ∷ text) = elim (cases_Bool (c == line_feed)) [ inl is ↦ at_feed c (d ∷ text) is | inr other ↦ past c d text other (first_is d text) ]
-
-pub line_is : (text more content rest after : List ℕ) (c n : ℕ) → text ≡ c ∷ more → rest ≡ behind text → content ≡ take (content_len text) text → ending_len rest ≡ n → after ≡ drop n rest
-    → lines text ≡ (record { content = content; ending = n }) ∷ lines after
-line_is text more content rest after c n e b t l a = rw (a, ← l, b, t, e) (first_is c more)
-
--- ---- sizes
-
-content_le : (text : List ℕ) → content_len text ≤ length text
-content_le [] = omega arith
-content_le (c ∷ text) = elim (cases_Bool (ending_len (c ∷ text) == 0)) [
-  | inl none ↦ rw none (omega (arith, content_le text))
-  | inr some ↦ rw some (omega arith)
-]
-
-ending_le : (text : List ℕ) → ending_len text ≤ length text
-ending_le [] = omega arith
-ending_le (c ∷ []) = elim (cases_Bool (c == line_feed)) [ inl is ↦ rw is (omega arith) | inr other ↦ rw other (omega arith) ]
-ending_le (c ∷ d ∷ text) = elim (cases_Bool (c == line_feed)) [
-  | inl is ↦ rw is (omega arith)
-  | inr other ↦ elim (cases_Bool ((c == carriage_return) && (d == line_feed))) [
-    | inl both ↦ rw (other, both) (omega arith)
-    | inr apart ↦ rw (other, apart) (omega arith)
-  ]
-]
-
-pub sizes : (text content rest after : List ℕ) (n : ℕ) → rest ≡ behind text → content ≡ take (content_len text) text → ending_len rest ≡ n → after ≡ drop n rest
-    → length text ≡ length content + n + length after
-sizes text content rest after n b t l a =
-    omega (arith, ap length b, ap length t, ap length a, length-take (content_len text) text, length-drop (content_len text) text, length-drop n rest, content_le text, ending_le rest)
-
-some_size : (c : ℕ) (text : List ℕ) → 0 < content_len (c ∷ text) + ending_len (behind (c ∷ text))
-some_size c text = elim (cases_Bool (ending_len (c ∷ text) == 0)) [
-  | inl none ↦ rw none (omega arith)
-  | inr some ↦ rw some (omega (arith, eqb-false (ending_len (c ∷ text)) 0 some))
-]
-
-pub some_line : (text more content rest : List ℕ) (c n : ℕ) → text ≡ c ∷ more → rest ≡ behind text → content ≡ take (content_len text) text → ending_len rest ≡ n → 0 < length content + n
-some_line text more content rest c n e b t l =
-    let some : 0 < content_len text + ending_len (behind text) = rw e (some_size c more) in
-    omega (arith, some, l, ap ending_len b, ap length t, length-take (content_len text) text, content_le text)
+pub last_is : (text more : List ℕ) (c : ℕ) → text ≡ c ∷ more → NoFeed text → lines text ≡ (record { content = text; ending = 0 }) ∷ []
+last_is text more c e h = rw e (line_last c more (subst NoFeed e h))

@@ -3,6 +3,7 @@ use Rattle.std.proofs.Common.{◌≡◌, ◌≢◌, ◌∙◌, ◌==◌, inl, in
 use Rattle.std.proofs.lemmas.List.{drop_all}
 use Rattle.std.specs.List.{list_all, prefix_len}
 use Rattle.std.proofs.lemmas.Bool.{cases_Bool, ne_eqb}
+use Rattle.std.proofs.lemmas.Bool.Decides.{nat_tests}
 use Rattle.std.proofs.lemmas.List.Folds.{length-prefix_len}
 use Rattle.tx_text.specs.Text.{begins, is_ascii_digit}
 use Rattle.tx_tokens.specs.Pieces.{cut, cuts, first_cut, hash, integer_piece, is_blank, is_letter, is_passed, is_quote, is_word_char, mark_cut, marks, quoted, run, text_cut}
@@ -141,3 +142,8 @@ module _ (c : ℕ) (more text rest : List ℕ) (n : ℕ) (piece : Piece) (e : te
 
 pub passed_by : (content rest : List ℕ) (n : ℕ) → n ≡ prefix_len is_blank content → rest ≡ drop n content → starts_nothing rest ≡ list_all is_passed (cuts content)
 passed_by content rest n e h = rw (h, e) (sym (passed_is content))
+
+-- ---- a quote is one byte
+
+pub quote_low : (c : ℕ) → is_quote c ≡ true → c < 128
+quote_low c h = grind (arith, nat_tests)

@@ -2,7 +2,7 @@
 use Rattle.std.proofs.Common.{◌≡◌, ◌∙◌, sym, ap, ℕ, zero, suc, [], add-one, ◌-◌, ◌≤◌, List, ◌∷◌, ◌++◌, ◌+◌, length, take, drop, IsUtf8, arith, length-append, take-append-drop, take_at, drop-drop}
 use Rattle.std.specs.Str.{chars}
 use Rattle.std.proofs.Math.Utf8.{encodes}
-use Rattle.std.proofs.lemmas.Str.{chars_from_encodes, encodes-append, encodes-chars, IsCharBoundary-at_seam}
+use Rattle.std.proofs.lemmas.Str.{chars_from_encodes, encodes-append, encodes-chars, IsCharBoundary-at_seam, length-le-encodes}
 use Rattle.std.specs.Prelude.{IsCharBoundary}
 
 -- a text is the bytes of its first characters and what follows them
@@ -28,6 +28,10 @@ chars-front s rest before n u v uf h e =
 pub within : (s rest : List ℕ) (n : ℕ) → IsUtf8 s → IsUtf8 rest → chars rest ≡ drop n (chars s) → length rest ≤ length s
 within s rest n u v h =
     omega (arith, ap length (split s rest n u v h), length-append (encodes (take n (chars s))) rest)
+
+-- a text has no more characters than bytes
+pub length-chars : (s : List ℕ) → IsUtf8 s → length (chars s) ≤ length s
+length-chars s u = omega (arith, length-le-encodes (chars s), ap length (encodes-chars s u))
 
 -- one character further
 pub dropped_more : (cs rest more : List ℕ) (c n : ℕ) → rest ≡ c ∷ more → rest ≡ drop n cs → more ≡ drop (n + 1) cs

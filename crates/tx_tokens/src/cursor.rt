@@ -1,8 +1,8 @@
 // Texts from the front: the first character, the first line.
-ghost use Rattle.std.specs.Prelude.{◌≡◌, ◌∷◌, ◌<◌, ◌+◌, [], length, take, drop, IfSome, MatchOption};
-ghost use Rattle.std.specs.Str.{chars};
-ghost use Rattle.tx_tokens.specs.Lines.{carriage_return, lines};
-ghost use Rattle.tx_tokens.specs.Calls.Walking.{content_len, ending_len};
+ghost use Rattle.std.specs.Prelude.{◌≡◌, ◌==◌, ◌∷◌, ◌++◌, ◌<◌, ◌+◌, [], None, length, IfSome, MatchOption};
+ghost use Rattle.std.specs.Str.{NonePass, chars};
+ghost use Rattle.tx_tokens.specs.Lines.{line_feed, lines};
+ghost use Rattle.tx_tokens.specs.Calls.Walking.{fed};
 
 /// The first character of a text, and what follows it.
 pub(crate) fn first_char(text: &str) -> Option<(char, &str)>
@@ -16,51 +16,35 @@ pub(crate) fn first_char(text: &str) -> Option<(char, &str)>
     }
 }
 
-/// How many characters end a line in front of a text, and what follows them.
-fn line_end(text: &str) -> (usize, &str)
-    ensures count { result.0 ≡ ending_len (chars text.entry.now) }
-    ensures rest { chars result.1.now ≡ drop result.0 (chars text.entry.now) }
+/// What stands before the first place of a character of one byte, and what follows it there.
+pub(crate) fn split_at_first(text: &str, mark: char) -> Option<(&str, &str)>
+    requires { mark < 128 }
+    ensures none { result ≡ None → NonePass (λ c. c == mark) (chars text.entry.now) }
+    ensures some { IfSome result (λ p. chars text.entry.now ≡ chars p.0.now ++ mark ∷ chars p.1.now) }
+    ensures before { IfSome result (λ p. NonePass (λ c. c == mark) (chars p.0.now)) }
 {
-    match first_char(text) {
-        Some(('\n', rest)) => (1, rest),
-        Some(('\r', rest)) => line_end_behind(text, rest),
-        _ => (0, text),
+    text.split_once(mark)
+}
+
+/// The content of a line that stands before its line feed, and how many characters end it.
+fn fed(line: &str) -> (&str, usize)
+    ensures { fed (chars line.entry.now) ≡ record { content = chars result.0.now; ending = result.1 } }
+{
+    match line.strip_suffix('\r') {
+        Some(content) => (content, 2),
+        None => (line, 1),
     }
 }
 
-/// The same behind a carriage return.
-fn line_end_behind<'a>(text: &'a str, behind: &'a str) -> (usize, &'a str)
-    requires { chars text.now ≡ carriage_return ∷ chars behind.now }
-    ensures count { result.0 ≡ ending_len (chars text.entry.now) }
-    ensures rest { chars result.1.now ≡ drop result.0 (chars text.entry.now) }
+/// A line that no line feed ends, if anything stands there.
+fn last_line(text: &str) -> Option<(&str, usize, &str)>
+    requires { NonePass (λ c. c == line_feed) (chars text.now) }
+    ensures value { MatchOption result (chars text.now ≡ []) (λ p. lines (chars text.now) ≡ (record { content = chars p.0.now; ending = p.1 }) ∷ lines (chars p.2.now)) }
+    ensures sizes { IfSome result (λ p. length (chars text.now) ≡ length (chars p.0.now) + p.1 + length (chars p.2.now)) }
+    ensures some { IfSome result (λ p. 0 < length (chars p.0.now) + p.1) }
 {
-    match first_char(behind) {
-        Some(('\n', rest)) => (2, rest),
-        _ => (0, text),
-    }
-}
-
-/// What follows the content of the first line.
-fn behind_content(text: &str) -> &str
-    ensures { chars result.now ≡ drop (content_len (chars text.now)) (chars text.now) }
-{
-    let mut rest = text;
-    'content: while let Some((_, more)) = first_char(rest) {
-        let (ending, _) = line_end(rest);
-        if ending > 0 {
-            return rest;
-        }
-        rest = more;
-    }
-    rest
-}
-
-/// The content of the first line, which ends where that part begins.
-fn content_before<'a>(text: &'a str, behind: &str) -> &'a str
-    requires { chars behind.now ≡ drop (content_len (chars text.now)) (chars text.now) }
-    ensures { chars result.now ≡ take (content_len (chars text.entry.now)) (chars text.entry.now) }
-{
-    &text[..text.len() - behind.len()]
+    first_char(text)?;
+    Some((text, 0, ""))
 }
 
 /// The content of the first line of a text, how many characters end it, and what follows.
@@ -69,9 +53,9 @@ pub(crate) fn first_line(text: &str) -> Option<(&str, usize, &str)>
     ensures sizes { IfSome result (λ p. length (chars text.now) ≡ length (chars p.0.now) + p.1 + length (chars p.2.now)) }
     ensures some { IfSome result (λ p. 0 < length (chars p.0.now) + p.1) }
 {
-    first_char(text)?;
-    let behind = behind_content(text);
-    let content = content_before(text, behind);
-    let (ending, rest) = line_end(behind);
-    Some((content, ending, rest))
+    let Some((line, behind)) = split_at_first(text, '\n') else {
+        return last_line(text);
+    };
+    let (content, ending) = fed(line);
+    Some((content, ending, behind))
 }

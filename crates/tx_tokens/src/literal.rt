@@ -1,10 +1,10 @@
 // Text literals.
-ghost use Rattle.std.specs.Prelude.{◌≡◌, ◌≢◌, ◌∷◌, ◌+◌, ◌≤◌, ◌<◌, ℕ, None, Some, IfOk, IfSome, length, drop};
-ghost use Rattle.std.specs.Str.{chars};
-ghost use Rattle.tx_tokens.specs.Pieces.{escaped, in_front, quoted, text_cut};
+ghost use Rattle.std.specs.Prelude.{◌≡◌, ◌≢◌, ◌==◌, ◌∷◌, ◌+◌, ◌≤◌, ◌<◌, ℕ, false, None, Some, IfOk, IfSome, length, drop};
+ghost use Rattle.std.specs.Str.{NonePass, chars};
+ghost use Rattle.tx_tokens.specs.Pieces.{backslash, escaped, in_front, quoted, text_cut};
 ghost use Rattle.tx_tokens.specs.Calls.Walking.{IsCut};
 
-use crate::cursor::first_char;
+use crate::cursor::{first_char, split_at_first};
 use crate::piece::Piece;
 use crate::token::TokenKind;
 use std::alloc::Global;
@@ -39,9 +39,9 @@ fn item(first: char, behind: &str) -> Option<(char, usize, &str)>
     Some((meant, 2, rest))
 }
 
-/// What stands behind an opening quote to the next such quote, by how many characters it is written, that quote counted,
-/// and what follows it.
-fn quoted<'a>(
+/// What stands behind an opening quote to the next such quote, character by character, by how many characters it is
+/// written, that quote counted, and what follows it.
+fn quoted_items<'a>(
     alloc: Global,
     quote: char,
     text: &'a str,
@@ -68,6 +68,36 @@ fn quoted<'a>(
     Ok(None)
 }
 
+/// Whether a backslash may stand in a text: where the answer is no, there is none.
+fn has_escape(text: &str) -> bool
+    ensures { result ≡ false → NonePass (λ c. c == backslash) (chars text.now) }
+{
+    text.contains('\\')
+}
+
+/// The same, which is at once the part before the next such quote where no backslash stands in it.
+fn quoted<'a>(
+    alloc: Global,
+    quote: char,
+    text: &'a str,
+) -> Result<Option<(PyText, usize, &'a str)>, NoMemory>
+    requires { quote < 128 }
+    ensures none { IfOk result (λ o. o ≡ None → quoted quote (chars text.entry.now) ≡ None) }
+    ensures some { IfOk result (λ o. IfSome o (λ p. quoted quote (chars text.entry.now) ≡ Some (p.0, p.1))) }
+    ensures rest { IfOk result (λ o. IfSome o (λ p. chars p.2.now ≡ drop p.1 (chars text.entry.now))) }
+    ensures size { IfOk result (λ o. IfSome o (λ p. p.1 ≤ length text.entry.now)) }
+{
+    let Some((before, behind)) = split_at_first(text, quote) else {
+        return Ok(None);
+    };
+    if has_escape(before) {
+        return quoted_items(alloc, quote, text);
+    }
+    let value = PyText::from_str(alloc, before)?;
+    let size = value.len() + 1;
+    Ok(Some((value, size, behind)))
+}
+
 /// The text literal that a quote begins, how many characters it has, and what follows it.
 #[tactic(auto, using(crate::proofs::PieceLemmas::text_none, crate::proofs::PieceLemmas::text_some))]
 pub(crate) fn text_piece<'a>(
@@ -75,6 +105,7 @@ pub(crate) fn text_piece<'a>(
     quote: char,
     behind: &'a str,
 ) -> Result<(Piece, usize, &'a str), NoMemory>
+    requires { quote < 128 }
     ensures { IfOk result (λ p. IsCut (text_cut (quoted quote (chars behind.entry.now))) (quote ∷ chars behind.entry.now) p.0 p.1 (chars p.2.now)) }
 {
     match quoted(alloc, quote, behind)? {

@@ -56,19 +56,25 @@ pub(crate) fn blanks(text: &str) -> (usize, &str)
     (size, rest)
 }
 
+/// How many letters, digits and underscores stand in front. Each is one byte.
+fn word_len(bytes: &[u8]) -> usize
+    ensures { result ≡ prefix_len is_word_char bytes.now }
+{
+    let mut size = 0;
+    for byte in bytes {
+        if !is_word_char(char::from(*byte)) {
+            return size;
+        }
+        size += 1;
+    }
+    size
+}
+
 /// The letters, digits and underscores in front, and what follows them.
 pub(crate) fn word(alloc: Global, text: &str) -> Result<(PyText, &str), NoMemory>
     ensures word { IfOk result (λ p. p.0 ≡ run is_word_char (chars text.entry.now)) }
     ensures rest { IfOk result (λ p. chars p.1.now ≡ drop (prefix_len is_word_char (chars text.entry.now)) (chars text.entry.now)) }
 {
-    let mut word = PyText::new(alloc);
-    let mut rest = text;
-    'characters: while let Some((c, more)) = first_char(rest) {
-        if !is_word_char(c) {
-            return Ok((word, rest));
-        }
-        word.push(c)?;
-        rest = more;
-    }
-    Ok((word, rest))
+    let (front, rest) = text.split_at(word_len(text.as_bytes()));
+    Ok((PyText::from_str(alloc, front)?, rest))
 }

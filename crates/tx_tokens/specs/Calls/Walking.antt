@@ -1,22 +1,13 @@
 -- Texts from the front, as the functions that walk over them see them.
 use Rattle.std.specs.Prelude.{◌≡◌, ℕ, ◌+◌, ◌^◌, ◌==◌, ◌&&◌, ◌||◌, Bool, true, false, List, [], ◌∷◌, ◌++◌, Option, if◌then◌else◌, drop, min, option_map}
-use Rattle.tx_tokens.specs.Lines.{line_feed, carriage_return}
+use Rattle.tx_tokens.specs.Lines.{Line, longer_line}
 use Rattle.tx_tokens.specs.Pieces.{Cut, cut, hash, is_digit_to, underscore}
 use Rattle.tx_tokens.specs.declared.piece.Piece.{Piece}
 
--- how many characters end a line in front of a text
-abbrev pub ending_len : List ℕ → ℕ
-ending_len [] = 0
-ending_len (c ∷ []) = if c == line_feed then 1 else 0
-ending_len (c ∷ d ∷ text) =
-    if c == line_feed then 1
-    else if (c == carriage_return) && (d == line_feed) then 2
-    else 0
-
--- how many characters the content of the first line has
-abbrev pub content_len : List ℕ → ℕ
-content_len [] = 0
-content_len (c ∷ text) = if ending_len (c ∷ text) == 0 then 1 + content_len text else 0
+-- a line that stands before its line feed
+abbrev pub fed : List ℕ → Line
+fed [] = record { content = []; ending = 1 }
+fed (c ∷ text) = longer_line c (fed text)
 
 -- the piece in front of a text, and what follows it
 pub record IsCut (c : Cut) (text : List ℕ) (piece : Piece) (size : ℕ) (rest : List ℕ) : Type 0 where

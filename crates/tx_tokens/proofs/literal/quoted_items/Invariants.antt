@@ -4,7 +4,7 @@ use denote.Text.{Utf8}
 use Rattle.std.specs.Str.{chars}
 use Rattle.tx_tokens.specs.Pieces.{quoted}
 use Rattle.tx_tokens.specs.Calls.Walking.{quoted_behind}
-use Rattle.tx_tokens.proofs.literal.quoted.Given as goal
+use Rattle.tx_tokens.proofs.literal.quoted_items.Given as goal
 
 abbrev pub invariant-items : goal.invariant-items
 invariant-items l =
