@@ -4,6 +4,7 @@ use Rattle.std.specs.List.{list_all}
 use Rattle.std.proofs.lemmas.Bool.{true≢false}
 use Rattle.std.proofs.lemmas.Bool.Decides.{Decides-eqb}
 use Rattle.tx_tree.specs.Tree.{Tree, Body}
+use Rattle.tx_name_set.specs.NameSet.{place_in}
 use Rattle.tx_names.specs.declared.role.Role.{Role}
 use Rattle.tx_names.specs.declared.role.Role.TheVariants.{Plain}
 use Rattle.tx_names.specs.declared.fault.Fault.{Fault}
@@ -13,7 +14,6 @@ use Rattle.tx_names.specs.Scope.{Text, role_size, names_of_def, names_of_lambda,
 use Rattle.tx_names.specs.Faults.{fault, first, faults_of_def, faults_of_lambda}
 use Rattle.tx_names.specs.Function.{Expr, Statements, Function, gives, does}
 use Rattle.tx_names.specs.Linked.{◌>>=◌, linked, does_body, told_at}
-use Rattle.tx_names.specs.Numbered.{place_in}
 use Rattle.tx_names.specs.Sound.{sound}
 use Rattle.tx_names.specs.Calls.Whole.{whole}
 use Rattle.tx_names.specs.Bind.{defs_of, known_of, bound_def, bound_lambda}

@@ -4,6 +4,7 @@ use Rattle.std.specs.List.{list_any, list_all}
 use Rattle.std.proofs.lemmas.Bool.{true≢false}
 use Rattle.std.proofs.lemmas.Bool.Decides.{Decides-eqb}
 use Rattle.tx_tree.specs.Tree.{Tree, Body}
+use Rattle.tx_name_set.specs.NameSet.{place_in}
 use Rattle.tx_names.specs.declared.role.Role.{Role}
 use Rattle.tx_names.specs.declared.role.Role.TheVariants.{Plain}
 use Rattle.tx_names.specs.declared.fault.Fault.{Fault}
@@ -13,7 +14,6 @@ use Rattle.tx_names.specs.Faults.{fault, when, first, faults_body, faults_of_def
 use Rattle.tx_names.specs.Function.{Function}
 use Rattle.tx_names.specs.Linked as l
 use Rattle.tx_names.specs.Linked.{◌>>=◌, has_params, told_at}
-use Rattle.tx_names.specs.Numbered.{place_in}
 use Rattle.tx_names.specs.Bind.{known_of}
 use Rattle.tx_names.specs.Laws.{FaultsLaw}
 use Rattle.tx_names.proofs.Told.{Told, done, linked_told, body_told}

@@ -11,7 +11,7 @@ mod Branches
 mod Soundness
 mod OnlyRows
 mod FaultsTold
-mod Places
+mod InnerNames
 mod Scopes
 mod Bindings
 mod Naming

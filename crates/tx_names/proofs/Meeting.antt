@@ -5,9 +5,10 @@ use Rattle.std.proofs.lemmas.List.Folds.{list_any-append}
 use Rattle.tx_tree.specs.Words.{same_text}
 use Rattle.tx_tree.specs.Tree as t
 use Rattle.tx_tree.specs.Tree.{Tree, Trees, PairTrees, Operands, MaybeTree, Body, Tail, tail}
+use Rattle.tx_name_set.specs.NameSet.{is_in, add, add_all}
 use Rattle.tx_names.specs.declared.role.Role.{Role}
 use Rattle.tx_names.proofs.Tails.{if_tree, for_tree}
-use Rattle.tx_names.specs.Scope.{Text, is_in, names_of, add, add_all, assigned_body, assigned_tail, with_inner, with_inner_each, with_inner_pairs, with_inner_operands, with_inner_maybe, with_inner_of, with_inner_body, with_inner_all, with_inner_tail, locals_of_def, locals_of_lambda, names_of_def, names_of_lambda}
+use Rattle.tx_names.specs.Scope.{Text, names_of, assigned_body, assigned_tail, with_inner, with_inner_each, with_inner_pairs, with_inner_operands, with_inner_maybe, with_inner_of, with_inner_body, with_inner_all, with_inner_tail, locals_of_def, locals_of_lambda, names_of_def, names_of_lambda}
 
 -- these names, with others behind them
 pub record Front (met all : List Text) : Type 0 where

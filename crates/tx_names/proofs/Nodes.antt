@@ -5,6 +5,7 @@ use Rattle.tx_tree.specs.declared.expr.Pair.{Pair, fold_out-Pair}
 use Rattle.tx_tree.specs.declared.expr.Operand.{Operand, fold_out-Operand}
 use Rattle.tx_tree.specs.declared.stmt.Arm.{Arm, fold_out-Arm}
 use Rattle.tx_tree.specs.Tree as t
+use Rattle.tx_name_set.specs.NameSet.{slots_below}
 use Rattle.tx_names.specs.declared.code.BoundBody.{BoundBody, Gives, Does, fold-roll-BoundBody}
 use Rattle.tx_names.specs.declared.code.BoundBody.TheVariants.{rolls-Gives, rolls-Does}
 use Rattle.tx_names.specs.declared.code.BoundBody.TheOpen as c
@@ -18,7 +19,7 @@ use Rattle.tx_names.specs.declared.code.BoundOperand.{BoundOperand, roll-BoundOp
 use Rattle.tx_names.specs.declared.code.BoundArm.{BoundArm, roll-BoundArm, fold-roll-BoundArm}
 use Rattle.tx_names.specs.declared.code.Routine.{Routine, fold_out-Routine}
 use Rattle.tx_names.specs.Function.{Expr, Maybe, Iterable, Statement, Body, gives, does, Function, function}
-use Rattle.tx_names.specs.View.{statements, Branch, slots_below, body_step, expr_step, maybe_step, stmt_step, iterable_step, arm_step, operand_step, pair_step, routine_step, body_of, expr_of, statement_of, arm_of, operand_of, pair_of, routine_of}
+use Rattle.tx_names.specs.View.{statements, Branch, body_step, expr_step, maybe_step, stmt_step, iterable_step, arm_step, operand_step, pair_step, routine_step, body_of, expr_of, statement_of, arm_of, operand_of, pair_of, routine_of}
 
 -- ---- in the tree of a script
 

@@ -10,17 +10,18 @@ use Rattle.tx_tree.specs.Words.{same_text}
 use Rattle.tx_tree.specs.Takes.{exactly, allows, builtin_takes, walk_takes}
 use Rattle.tx_tree.specs.Tree as t
 use Rattle.tx_tree.specs.Tree.{Tree, Trees, PairTrees, Operands, MaybeTree, Body, Tail}
+use Rattle.tx_name_set.specs.NameSet.{is_in, place_in}
 use Rattle.tx_names.specs.declared.role.Role.{Role}
 use Rattle.tx_names.specs.declared.role.Role.TheVariants.{Plain}
 use Rattle.tx_names.specs.declared.fault.Fault.{Fault}
 use Rattle.tx_names.specs.Named.{builtin_at, method_at, walk_function_at, view_at}
-use Rattle.tx_names.specs.Scope.{Text, number_of, Scope, is_name_of, is_in, is_variable, within, role_size, plain_params, names_of_def, names_of_lambda, scope_of_def, scope_of_lambda}
+use Rattle.tx_names.specs.Scope.{Text, number_of, Scope, is_name_of, is_variable, within, role_size, plain_params, names_of_def, names_of_lambda, scope_of_def, scope_of_lambda}
 use Rattle.tx_names.specs.Faults.{cell_in}
 use Rattle.tx_names.specs.Function as f
 use Rattle.tx_names.specs.Function.{Target, one, several, Function, function, params_of}
 use Rattle.tx_names.specs.Linked as l
 use Rattle.tx_names.specs.Linked.{◌>>=◌, counted, Callee, builtin_function, earlier_def, call_of, by_def, by_builtin, by_walk, by_view, by_cell, as_value, walk_in, def_named, by_method, told_at, has_params}
-use Rattle.tx_names.specs.Numbered.{place_in, numbered_target, numbered_expr, numbered_exprs, numbered_pairs, numbered_comparisons, numbered_maybe, numbered_iterable, numbered_statement, numbered_statements, numbered_arms, numbered, numbered_defs}
+use Rattle.tx_names.specs.Numbered.{numbered_target, numbered_expr, numbered_exprs, numbered_pairs, numbered_comparisons, numbered_maybe, numbered_iterable, numbered_statement, numbered_statements, numbered_arms, numbered, numbered_defs}
 use Rattle.tx_names.specs.Laws.{NumberingLaw, named_def, named_lambda, numbered_result}
 
 abbrev mapped : {A B : Type 0} → (A → B) → Result A Fault → Result B Fault

@@ -13,12 +13,13 @@ use Rattle.tx_tree.specs.Words.{same_text}
 use Rattle.tx_tree.specs.Takes.{Takes, allows, walk_takes}
 use Rattle.tx_tree.specs.Tree as t
 use Rattle.tx_tree.specs.Tree.{Tree, Trees, PairTrees, Operands, MaybeTree, Body, Tail}
+use Rattle.tx_name_set.specs.NameSet.{is_in, add_all}
 use Rattle.tx_names.specs.declared.role.Role.{Role}
 use Rattle.tx_names.specs.declared.role.Role.TheVariants.{Plain, OfRow, OfAccRow}
 use Rattle.tx_names.specs.declared.fault.Fault.{Fault}
 use Rattle.tx_names.specs.declared.fault.FaultKind.TheVariants.{Recursive, Unknown, Arity, RowUse}
 use Rattle.tx_names.specs.Named.{walk_function_at, view_at}
-use Rattle.tx_names.specs.Scope.{Text, number_of, words_of, names_of, Scope, is_name_of, is_in, is_variable, within, role_size, add_all, assigned_body, scope_of_def}
+use Rattle.tx_names.specs.Scope.{Text, number_of, words_of, names_of, Scope, is_name_of, is_variable, within, role_size, assigned_body, scope_of_def}
 use Rattle.tx_names.specs.Faults as g
 use Rattle.tx_names.specs.Faults.{fault, when, Known, called_takes, is_miscounted, at_read, at_called, at_method, at_assigned, at_target, cell_in, unless_cell, walk_here, is_row_use}
 use Rattle.tx_names.proofs.Soundness.{in_all_added}

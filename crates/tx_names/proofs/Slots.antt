@@ -1,8 +1,9 @@
 -- How many slots lie below a number.
 use Rattle.std.proofs.Common.{◌≡◌, ℕ, zero, suc, List, [], ◌∷◌, ◌++◌, length, refl, ap, ◌∙◌}
+use Rattle.tx_name_set.specs.NameSet.{slots_below}
 use Rattle.tx_names.specs.declared.code.Routine.{Routine}
 use Rattle.tx_names.specs.Function.{locals_of}
-use Rattle.tx_names.specs.View.{slots_below, routine_of}
+use Rattle.tx_names.specs.View.{routine_of}
 use Rattle.tx_names.proofs.Nodes.{routine_is}
 
 pushed : (xs : List ℕ) (x : ℕ) → length (xs ++ x ∷ []) ≡ suc (length xs)

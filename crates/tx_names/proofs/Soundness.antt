@@ -17,20 +17,21 @@ use Rattle.tx_tree.specs.Spell.{texts_of}
 use Rattle.tx_tree.specs.Takes.{exactly, allows, builtin_takes, method_takes, walk_takes, is_view}
 use Rattle.tx_tree.specs.Tree as t
 use Rattle.tx_tree.specs.Tree.{Tree, Trees, PairTrees, Operands, MaybeTree, Body, Tail}
+use Rattle.tx_name_set.specs.NameSet.{is_in, add, add_all, place_in}
 use Rattle.tx_names.specs.declared.role.Role.{Role}
 use Rattle.tx_names.specs.declared.role.Role.TheVariants.{Plain}
 use Rattle.tx_names.specs.declared.fault.Fault.{Fault}
 use Rattle.tx_names.specs.declared.fault.FaultKind.TheVariants.{Arity}
 use Rattle.tx_names.specs.Named.{with_word, builtin_at, method_at, walk_function_at, view_at, walk_functions, views}
-use Rattle.tx_names.specs.Scope.{Text, number_of, names_of, Scope, is_name_of, is_in, is_variable, within, role_size, plain_params, add, add_all, assigned, assigned_body, assigned_each, assigned_tail, with_inner, with_inner_each, with_inner_pairs, with_inner_operands, with_inner_maybe, with_inner_of, with_inner_body, with_inner_all, with_inner_tail, locals_of_def, locals_of_lambda, names_of_def, names_of_lambda, scope_of_def, scope_of_lambda}
+use Rattle.tx_names.specs.Scope.{Text, number_of, names_of, Scope, is_name_of, is_variable, within, role_size, plain_params, assigned, assigned_body, assigned_each, assigned_tail, with_inner, with_inner_each, with_inner_pairs, with_inner_operands, with_inner_maybe, with_inner_of, with_inner_body, with_inner_all, with_inner_tail, locals_of_def, locals_of_lambda, names_of_def, names_of_lambda, scope_of_def, scope_of_lambda}
 use Rattle.tx_names.specs.Faults.{fault, cell_in}
 use Rattle.tx_names.specs.Function as f
 use Rattle.tx_names.specs.Function.{Target, one, several, Function, function, params_of}
 use Rattle.tx_names.specs.Linked as l
 use Rattle.tx_names.specs.Linked.{◌>>=◌, counted, Callee, builtin_function, earlier_def, call_of, by_def, by_builtin, by_walk, by_view, by_cell, as_value, walk_in, def_named, by_method, told_at, has_params}
-use Rattle.tx_names.specs.Numbered.{place_in}
 use Rattle.tx_names.specs.Sound.{size, is_local, sound_target, sound_expr, sound_exprs, sound_pairs, sound_comparisons, sound_maybe, sound_iterable, sound_statement, sound_statements, sound_arms, sound}
 use Rattle.tx_names.specs.Laws.{SoundLaw}
+use Rattle.tx_names.proofs.InnerNames.{or_assoc}
 use Rattle.tx_names.proofs.Meeting.{Front, stays, further, add_all_front, inner_front, each_front, pairs_front, operands_front, maybe_front, body_front, all_front, tail_front, still_in, or_true}
 
 -- what an answer is, where there is one
@@ -98,10 +99,6 @@ in_added met m n = by_test (is_in met m) refl
     by_test : (b : Bool) → is_in met m ≡ b → is_in (if b then met else met ++ m ∷ []) n ≡ (is_in met n || same_text n m)
     by_test true e = or_comm_by (is_in met n) false (same_text n m) (λ h. subst (λ (x : Text). is_in met x ≡ true) (sym ((bytes_decides n m).0 h)) e)
     by_test false e = one_more
-
-or_assoc : (a b c : Bool) → ((a || b) || c) ≡ (a || (b || c))
-or_assoc true b c = refl
-or_assoc false b c = refl
 
 pub in_all_added : (met ns : List Text) (n : Text) → is_in (add_all met ns) n ≡ (is_in met n || is_in ns n)
 in_all_added met [] n = or_comm_by (is_in met n) false false (λ h. absurd (true≢false (sym h)))

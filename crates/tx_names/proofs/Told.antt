@@ -13,10 +13,11 @@ use Rattle.tx_tree.specs.Words.{same_text}
 use Rattle.tx_tree.specs.Takes.{Takes, exactly, allows, builtin_takes, method_takes, walk_takes}
 use Rattle.tx_tree.specs.Tree as t
 use Rattle.tx_tree.specs.Tree.{Tree, Trees, PairTrees, Operands, MaybeTree, Body, Tail}
+use Rattle.tx_name_set.specs.NameSet.{is_in}
 use Rattle.tx_names.specs.declared.fault.Fault.{Fault}
 use Rattle.tx_names.specs.declared.fault.FaultKind.TheVariants.{Recursive, Unknown, Arity, RowUse}
 use Rattle.tx_names.specs.Named.{builtin_at, method_at, walk_function_at, view_at}
-use Rattle.tx_names.specs.Scope.{Text, number_of, Scope, is_name_of, is_in, is_variable, within}
+use Rattle.tx_names.specs.Scope.{Text, number_of, Scope, is_name_of, is_variable, within}
 use Rattle.tx_names.specs.Faults as g
 use Rattle.tx_names.specs.Faults.{fault, when, first, first_some, is_miscounted, params_of_def, called_takes, at_read, at_called, at_method, at_assigned, at_target, cell_in, unless_cell, walk_here}
 use Rattle.tx_names.specs.Function as f

@@ -1,6 +1,7 @@
 -- What `bind` and `bind_lambda` answer: the faults of a def or a lambda, and its function with slots.
 use Rattle.std.specs.Prelude.{ℕ, List, [], ◌∷◌, map, length, Result, Err}
 use Rattle.tx_tree.specs.Tree.{Tree, Body, BlockTree, define}
+use Rattle.tx_name_set.specs.NameSet.{place_in}
 use Rattle.tx_names.specs.declared.role.Role.{Role}
 use Rattle.tx_names.specs.declared.fault.Fault.{Fault}
 use Rattle.tx_names.specs.declared.fault.FaultKind.{FaultKind}
@@ -13,7 +14,6 @@ use Rattle.tx_names.specs.Function.{Function, params_of}
 use Rattle.tx_names.specs.Scope.{Text, names_of_def, names_of_lambda}
 use Rattle.tx_names.specs.Faults.{fault, Known, faults_of_def}
 use Rattle.tx_names.specs.Linked.{function_of_def, function_of_lambda}
-use Rattle.tx_names.specs.Numbered.{place_in}
 use Rattle.tx_names.specs.View.{routine_of}
 
 -- a bound function as a function whose names are slots

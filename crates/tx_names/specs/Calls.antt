@@ -1,5 +1,3 @@
--- The test of two names decides whether they are the same.
-pub mod NameLaws
 -- What the names around a part of a function stand for.
 pub mod Around
 -- A function from its names, its parameters and its body.

@@ -11,6 +11,7 @@ use Rattle.tx_tree.specs.declared.function.Walk.{Walk}
 use Rattle.tx_tree.specs.Words.{same_text}
 use Rattle.tx_tree.specs.Tree as t
 use Rattle.tx_tree.specs.Tree.{Tree, Trees, PairTrees, Operands, MaybeTree, Body, Tail}
+use Rattle.tx_name_set.specs.NameSet.{is_in}
 use Rattle.tx_names.specs.declared.role.Role.{Role}
 use Rattle.tx_names.specs.declared.role.Role.TheVariants.{Plain}
 use Rattle.tx_names.specs.declared.fault.Fault.{Fault}
@@ -19,7 +20,7 @@ use Rattle.tx_tree.specs.Takes.{Takes, exactly, allows, builtin_takes, method_ta
 use Rattle.tx_names.specs.Named.{builtin_at, method_at, walk_function_at, view_at}
 use Rattle.tx_names.specs.Function as f
 use Rattle.tx_names.specs.Function.{Target, one, several, Function, function, params_of}
-use Rattle.tx_names.specs.Scope.{Text, number_of, Scope, is_name_of, is_in, is_variable, within, role_size, plain_params, scope_of_def, scope_of_lambda}
+use Rattle.tx_names.specs.Scope.{Text, number_of, Scope, is_name_of, is_variable, within, role_size, plain_params, scope_of_def, scope_of_lambda}
 use Rattle.tx_names.specs.Faults.{fault, cell_in}
 
 -- goes on with what was found; a fault is the answer

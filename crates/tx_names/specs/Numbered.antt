@@ -1,13 +1,8 @@
 -- A function with slots for its names: each name becomes its place among the function's own local names.
 use Rattle.std.specs.Prelude.{ℕ, List, [], ◌∷◌, map}
-use Rattle.std.specs.List.{position_or_len}
-use Rattle.tx_tree.specs.Words.{same_text}
+use Rattle.tx_name_set.specs.NameSet.{place_in}
 use Rattle.tx_names.specs.Function.{Target, one, several, Expr, nil, truth, int, text, name, cell, paren, tuple, list, dict, comprehension, call, builtin, method, index, slice, unary, binary, compare, negation, conjunction, disjunction, conditional, Exprs, none, more, Pairs, no_pair, pair, Comparisons, no_operand, operand, Maybe, absent, present, Iterable, value, walk, view, Statement, pass, break, continue, return, assign, augment, express, branch, repeat, Statements, finish, next, Arms, no_arm, arm, Body, gives, does, Function, function}
 use Rattle.tx_names.specs.Scope.{Text}
-
--- the place of a name among some, and their number for one that is not among them
-abbrev pub place_in : List Text → Text → ℕ
-place_in names n = position_or_len (same_text n) names
 
 abbrev pub numbered_target : (Text → ℕ) → Target Text → Target ℕ
 numbered_target p (one n) = one (p n)

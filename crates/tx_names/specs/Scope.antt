@@ -1,21 +1,18 @@
 -- Which names are local to a function, and which within its comprehensions (Python Language Reference, "Binding of names",
 -- "Resolution of names", "Displays for lists, sets and dictionaries").
-use Rattle.std.specs.Prelude.{ℕ, suc, Bool, false, ◌||◌, if◌then◌else◌, List, [], ◌∷◌, ◌++◌, Option, Some, None, slice_get, take}
-use Rattle.std.specs.List.{list_any}
+use Rattle.std.specs.Prelude.{ℕ, suc, Bool, false, ◌||◌, List, [], ◌∷◌, ◌++◌, Option, Some, None, slice_get, take}
 use Rattle.tx_tree.specs.declared.target.Word.{Word}
 use Rattle.tx_tree.specs.declared.target.Target.{Target}
 use Rattle.tx_tree.specs.declared.target.Target.TheVariants as target
 use Rattle.tx_tree.specs.Words.{same_text}
 use Rattle.tx_tree.specs.Spell.{texts_of}
 use Rattle.tx_tree.specs.Tree.{Tree, nil, truth, int, text, name, paren, tuple, bare_tuple, list, dict, comprehension, call, method, index, slice, unary, binary, compare, negation, conjunction, disjunction, conditional, Trees, none, more, PairTrees, no_pair, pair, Operands, no_operand, operand, MaybeTree, absent, present, Statement, pass, break, continue, return, assign, augment, express, branch, repeat, Body, line, indented, Statements, finish, next, Tail, nothing, otherwise, elif}
+use Rattle.tx_name_set.specs.NameSet.{is_in, add_all}
 use Rattle.tx_names.specs.declared.role.Role.{Role}
 use Rattle.tx_names.specs.declared.role.Role.TheVariants.{Plain, OfRow, OfAccRow}
 
 abbrev pub Text : Type 0
 Text = List ℕ
-
-abbrev pub is_in : List Text → Text → Bool
-is_in names n = list_any (same_text n) names
 
 -- the names of a target, in their order
 abbrev pub words_of : Target → List Word
@@ -73,15 +70,6 @@ abbrev mutual
   assigned_tail nothing = []
   assigned_tail (otherwise b) = assigned_body b
   assigned_tail (elif a b t) = assigned_body b ++ assigned_tail t
-
--- ---- lists of names, each once
-
-abbrev pub add : List Text → Text → List Text
-add met n = if is_in met n then met else met ++ n ∷ []
-
-abbrev pub add_all : List Text → List Text → List Text
-add_all met [] = met
-add_all met (n ∷ ns) = add_all (add met n) ns
 
 -- ---- the names around a part of a function
 

@@ -1,6 +1,7 @@
 -- A bound function is a function whose names are slots.
-use Rattle.std.specs.Prelude.{ℕ, zero, suc, List, [], ◌∷◌, ◌++◌}
+use Rattle.std.specs.Prelude.{ℕ, List, [], ◌∷◌}
 use Rattle.tx_tree.specs.declared.operator.CompareOp.{CompareOp}
+use Rattle.tx_name_set.specs.NameSet.{slots_below}
 use Rattle.tx_names.specs.declared.code.BoundTarget.{BoundTarget}
 use Rattle.tx_names.specs.declared.code.BoundTarget.TheVariants as t
 use Rattle.tx_names.specs.declared.code.BoundBody.{BoundBody, fold-BoundBody}
@@ -45,11 +46,6 @@ arms (p ∷ rest) = arm p.0 p.1 (arms rest)
 abbrev pub target_of : BoundTarget → Target ℕ
 target_of (t.One slot) = one slot
 target_of (t.Several slots) = several slots
-
--- the slots below a number
-abbrev pub slots_below : ℕ → List ℕ
-slots_below zero = []
-slots_below (suc n) = slots_below n ++ n ∷ []
 
 -- ---- one step a type, over the parts
 

@@ -1,14 +1,15 @@
 // The names around a part of a function: those of the function, and those of the comprehensions around the part.
 ghost use Rattle.std.specs.Prelude.{◌≡◌, ◌||◌, ℕ, List, IfOk, option_copied};
+ghost use Rattle.tx_name_set.specs.NameSet.{is_in};
 ghost use Rattle.tx_names.specs.declared.around.Around as around;
-ghost use Rattle.tx_names.specs.Scope.{is_in, is_name_of, is_variable, within};
+ghost use Rattle.tx_names.specs.Scope.{is_name_of, is_variable, within};
 ghost use Rattle.tx_names.specs.Calls.Around.{inner_names, scope_of, slot_of};
 
 use crate::Defs;
 use crate::meet::add_target;
-use crate::names::Names;
 use std::alloc::Global;
 use std::rc::Rc;
+use tx_name_set::Names;
 use tx_text::{NoMemory, PyText};
 use tx_tree::Target;
 
@@ -54,7 +55,7 @@ fn is_name_of(name: Option<&PyText>, other: &PyText) -> bool
 }
 
 // Whether a name is a variable of a comprehension around.
-#[tactic(auto, using(crate::proofs::Places::inner))]
+#[tactic(auto, using(crate::proofs::InnerNames::inner))]
 fn is_inner(inner: &Inner<'_>, name: &PyText) -> bool
     ensures { (names : List (List ℕ)) → is_in (inner_names inner.now names) name.now ≡ (result || is_in names name.now) }
 {

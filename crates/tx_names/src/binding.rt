@@ -1,13 +1,13 @@
 // Defs and lambdas with slots for names.
 ghost use Rattle.std.specs.Prelude.{◌≡◌, [], true, nat_eq, Some, Ok, Err, IfOk, OnOk, map, length};
 ghost use Rattle.tx_tree.specs.Tree.{tree_of, body_of as body_tree, block_of};
+ghost use Rattle.tx_name_set.specs.NameSet.{place_in};
 ghost use Rattle.tx_names.specs.declared.fault.Fault as told;
 ghost use Rattle.tx_names.specs.declared.fault.FaultKind.TheVariants as kind;
 ghost use Rattle.tx_names.specs.Function.{gives, does};
 ghost use Rattle.tx_names.specs.Scope.{role_size, scope_of_def, scope_of_lambda, names_of_def, names_of_lambda};
 ghost use Rattle.tx_names.specs.Faults.{fault, first, faults_of_lambda};
 ghost use Rattle.tx_names.specs.Linked.{linked, does_body};
-ghost use Rattle.tx_names.specs.Numbered.{place_in};
 ghost use Rattle.tx_names.specs.Sound.{sound};
 ghost use Rattle.tx_names.specs.View.{body_of, expr_of, statements, statement_of};
 ghost use Rattle.tx_names.specs.Bind.{function_of, defs_of, known_of, error_of, faults_of_block, bound_block, bound_lambda, bound_def};
@@ -19,12 +19,12 @@ use crate::fault::Stop;
 use crate::link::link;
 use crate::link_body::link_suite;
 use crate::met::{names_of_def, names_of_lambda, plain_params, role_size, row_param, slots_of};
-use crate::names::Names;
 use crate::{
     BindError, Bound, BoundBody, BoundExpr, BoundStmts, Defs, Fault, FaultKind, Role, Routine,
 };
 use std::alloc::Global;
 use std::rc::Rc;
+use tx_name_set::Names;
 use tx_text::{NoMemory, PyText, Texts};
 use tx_tree::{Block, Expr, Suite};
 

@@ -14,7 +14,6 @@ mod link;
 mod link_body;
 mod meet;
 mod met;
-mod names;
 mod role;
 mod words;
 

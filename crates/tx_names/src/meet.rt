@@ -1,9 +1,10 @@
 // The names of a function: those that its statements assign to, and the variables of its comprehensions.
 ghost use Rattle.std.specs.Prelude.{◌≡◌, OnOk, map};
 ghost use Rattle.tx_tree.specs.Tree.{tree_of, trees, pair_of, pair_trees, operand_of, operands, maybe_of, statement_of, statements, body_of, arm_of, tail, nothing, otherwise_of};
-ghost use Rattle.tx_names.specs.Scope.{add_all, names_of, assigned, assigned_body, assigned_each, assigned_tail, with_inner, with_inner_each, with_inner_pairs, with_inner_operands, with_inner_maybe, with_inner_of, with_inner_body, with_inner_all, with_inner_tail};
+ghost use Rattle.tx_name_set.specs.NameSet.{add_all};
+ghost use Rattle.tx_names.specs.Scope.{names_of, assigned, assigned_body, assigned_each, assigned_tail, with_inner, with_inner_each, with_inner_pairs, with_inner_operands, with_inner_maybe, with_inner_of, with_inner_body, with_inner_all, with_inner_tail};
 
-use crate::names::Names;
+use tx_name_set::Names;
 use tx_text::NoMemory;
 use tx_tree::{Arm, Expr, Maybe, Operand, Otherwise, Pair, Stmt, Suite, Target};
 
@@ -14,7 +15,10 @@ pub(crate) fn add_target<'a>(target: &'a Target, names: &mut Names<'a>) -> Resul
     ensures { OnOk result (names.new ≡ add_all names.old (names_of target.now)) }
 {
     match target {
-        Target::Name(word) => names.add(&word.text),
+        Target::Name(word) => {
+            names.add(&word.text)?;
+            Ok(())
+        }
         Target::Names { names: words, .. } => names.add_words(words.as_slice()),
         Target::Bracketed { names: words, .. } => names.add_words(words.as_slice()),
     }
@@ -27,7 +31,10 @@ fn add_assigned<'a>(statement: &'a Stmt, names: &mut Names<'a>) -> Result<(), No
 {
     match statement {
         Stmt::Assign { target, .. } => add_target(target, names),
-        Stmt::Augment { name, .. } => names.add(name),
+        Stmt::Augment { name, .. } => {
+            names.add(name)?;
+            Ok(())
+        }
         Stmt::If {
             suite,
             arms,

@@ -1,13 +1,13 @@
 // The names of a function, and the slots of its parameters.
 ghost use Rattle.std.specs.Prelude.{◌≡◌, IfOk, map, option_copied, take};
 ghost use Rattle.tx_tree.specs.Tree.{tree_of, body_of};
+ghost use Rattle.tx_name_set.specs.NameSet.{place_in};
 ghost use Rattle.tx_names.specs.Scope.{plain_params, row_param, role_size, locals_of_def, locals_of_lambda, names_of_def, names_of_lambda};
-ghost use Rattle.tx_names.specs.Numbered.{place_in};
 
 use crate::meet::{add_assigned_in, add_inner, add_inner_in};
-use crate::names::Names;
 use crate::{Role, Slots};
 use std::alloc::Global;
+use tx_name_set::Names;
 use tx_text::{NoMemory, PyText};
 use tx_tree::{Expr, Suite};
 

@@ -2,6 +2,7 @@
 use Rattle.std.specs.Prelude.{ℕ, List, ◌++◌, take, option_copied, Result, Ok}
 use Rattle.tx_tree.specs.Tree as t
 use Rattle.tx_tree.specs.declared.target.Target as declared
+use Rattle.tx_name_set.specs.NameSet.{place_in}
 use Rattle.tx_names.specs.declared.fault.Fault.{Fault}
 use Rattle.tx_names.specs.declared.around.Around.{Around}
 use Rattle.tx_names.specs.declared.around.Inner.{Inner, fold-Inner}
@@ -14,7 +15,6 @@ use Rattle.tx_names.specs.Function.{Function}
 use Rattle.tx_names.specs.Scope.{Text, Scope}
 use Rattle.tx_names.specs.Linked as l
 use Rattle.tx_names.specs.Linked.{◌>>=◌, Callee, builtin_function, earlier_def}
-use Rattle.tx_names.specs.Numbered.{place_in}
 use Rattle.tx_names.specs.View.{routine_of}
 use Rattle.tx_names.specs.Bind.{defs_of}
 

@@ -1,9 +1,9 @@
 -- A function from its names, its parameters and its body.
 use Rattle.std.specs.Prelude.{ℕ, List, map}
+use Rattle.tx_name_set.specs.NameSet.{place_in}
 use Rattle.tx_names.specs.declared.role.Role.{Role}
 use Rattle.tx_names.specs.Function.{Body, Function, function}
 use Rattle.tx_names.specs.Scope.{Text, plain_params}
-use Rattle.tx_names.specs.Numbered.{place_in}
 
 -- each name at its place
 abbrev pub whole : List Text → Role → List Text → Body ℕ → Function ℕ

@@ -1,5 +1,6 @@
 use Rattle.std.proofs.Common.{◌≡◌, Ok, Err, map, length, sym, ap, ◌∙◌, subst, rules}
 use Rattle.tx_tree.specs.Tree.{body_of}
+use Rattle.tx_name_set.specs.NameSet.{place_in}
 use Rattle.tx_names.specs.declared.role.Role.{Role}
 use Rattle.tx_names.specs.declared.role.Role.TheVariants.{Plain}
 use Rattle.tx_names.specs.declared.fault.FaultKind.TheVariants.{Arity}
@@ -7,7 +8,6 @@ use Rattle.tx_names.specs.declared.fault.Stop.TheVariants as stop
 use Rattle.tx_names.specs.Scope.{role_size, names_of_def, scope_of_def}
 use Rattle.tx_names.specs.Faults.{fault}
 use Rattle.tx_names.specs.Linked.{does_body}
-use Rattle.tx_names.specs.Numbered.{place_in}
 use Rattle.tx_names.specs.View.{statements, statement_of}
 use Rattle.tx_names.specs.Bind.{defs_of}
 use Rattle.tx_names.proofs.Bindings.{defs_sound, def_refused, params_refused, row_refused, def_bound, def_sound}

@@ -1,9 +1,9 @@
 use Rattle.std.proofs.Common.{◌≡◌, None, List, Ok, Err, take, subst, option_copied}
 use Rattle.std.specs.Result.{IfOk}
 use Rattle.tx_tree.specs.Tree.{tree_of}
+use Rattle.tx_name_set.specs.NameSet.{place_in}
 use Rattle.tx_names.specs.Scope.{Text, Scope, locals_of_lambda, names_of_lambda, row_param, scope_of_lambda}
 use Rattle.tx_names.specs.Linked.{linked}
-use Rattle.tx_names.specs.Numbered.{place_in}
 use Rattle.tx_names.specs.View.{expr_of}
 use Rattle.tx_names.specs.Bind.{defs_of}
 use Rattle.tx_names.specs.Calls.Around.{inner_names}

@@ -1,6 +1,7 @@
 use Rattle.std.proofs.Common.{◌+◌, map, drop, sym, ap, ◌∙◌, add-one}
 use Rattle.tx_tree.specs.Tree.{statement_of, statements, arm_of, tail, nothing}
-use Rattle.tx_names.specs.Scope.{add_all, assigned, assigned_body, assigned_each, assigned_tail}
+use Rattle.tx_name_set.specs.NameSet.{add_all}
+use Rattle.tx_names.specs.Scope.{assigned, assigned_body, assigned_each, assigned_tail}
 use Rattle.tx_names.proofs.Nodes.{arm_tree}
 use Rattle.tx_names.proofs.Items.{item_next}
 use Rattle.tx_names.proofs.Meeting.{add_all-append}

@@ -1,6 +1,7 @@
 use Rattle.std.proofs.Common.{◌≡◌, map, drop}
 use Rattle.tx_tree.specs.Tree.{statement_of, statements, arm_of, tail, nothing}
-use Rattle.tx_names.specs.Scope.{add_all, assigned_each, assigned_tail}
+use Rattle.tx_name_set.specs.NameSet.{add_all}
+use Rattle.tx_names.specs.Scope.{assigned_each, assigned_tail}
 use Rattle.tx_names.proofs.meet.+assigned.Given as goal
 
 abbrev pub invariant-add_assigned_each-loop-statement : goal.invariant-add_assigned_each-loop-statement

@@ -1,5 +1,5 @@
 use Rattle.std.proofs.Common.{◌≡◌, ◌++◌, map, drop}
-use Rattle.tx_names.specs.Numbered.{place_in}
+use Rattle.tx_name_set.specs.NameSet.{place_in}
 use Rattle.tx_names.proofs.met.slots_of.Given as goal
 
 abbrev pub invariant-loop-param : goal.invariant-loop-param

@@ -5,10 +5,8 @@ use Rattle.std.specs.List.{list_any, position_or_len, IsDistinct, AllByRecursion
 use Rattle.std.specs.Cmp.Lexicographic.{bytes_decides}
 use Rattle.std.proofs.lemmas.Bool.{true≢false}
 use Rattle.std.proofs.lemmas.Bool.Decides.{nat_tests}
-use Rattle.std.proofs.lemmas.List.Folds.{list_any-append}
 use Rattle.tx_tree.specs.Words.{same_text}
-use Rattle.tx_names.specs.Numbered.{place_in}
-use Rattle.tx_names.specs.View.{slots_below}
+use Rattle.tx_name_set.specs.NameSet.{place_in, slots_below}
 
 -- ---- the first names
 
@@ -107,11 +105,3 @@ unfolding IsDistinct
 places_below [] h = refl
 places_below (x ∷ xs) h = ap (λ b. (if not b then 1 + place_in xs x else 0) ∷ map (place_in (x ∷ xs)) xs) ((bytes_decides x x).1 refl)
     ∙ ap (λ ys. 0 ∷ ys) (behind x xs xs h.0 ∙ ap (λ ys. map suc ys) (places_below xs h.1)) ∙ sym (below_front (length xs))
-
--- ---- names in front of others
-
-pub or_assoc : (a b c : Bool) → ((a || b) || c) ≡ (a || (b || c))
-or_assoc true b c = refl
-or_assoc false b c = refl
-
-pub ruleset inner = (list_any-append, or_assoc)
