@@ -164,13 +164,12 @@ fn sum_of(alloc: Global, terms: usize) -> Result<PyText, NoMemory> {
     Ok(text)
 }
 
-// Whether a sum of so many terms is read, or answered as no block.
-fn is_read(alloc: Global, terms: usize) -> Option<bool> {
-    let text = sum_of(alloc, terms).ok()?;
+// Whether the tokens of a text are read as one block, or answered as no block.
+fn is_block(alloc: Global, text: &PyText) -> Option<bool> {
     if text.len() > LONGEST {
         return None;
     }
-    let found = tokens(alloc, &text).ok()?;
+    let found = tokens(alloc, text).ok()?;
     if found.is_empty() {
         return None;
     }
@@ -181,9 +180,41 @@ fn is_read(alloc: Global, terms: usize) -> Option<bool> {
     }
 }
 
+fn sum_is_block(alloc: Global, terms: usize) -> Option<bool> {
+    let text = sum_of(alloc, terms).ok()?;
+    is_block(alloc, &text)
+}
+
 #[test]
 fn long_sums_are_answered(rt: HostRuntime) {
-    assert!(rt; is_read(rt.alloc(), 64) == Some(true));
-    assert!(rt; is_read(rt.alloc(), 65) == Some(false));
-    assert!(rt; is_read(rt.alloc(), 100_000) == Some(false));
+    assert!(rt; sum_is_block(rt.alloc(), 64) == Some(true));
+    assert!(rt; sum_is_block(rt.alloc(), 65) == Some(false));
+    assert!(rt; sum_is_block(rt.alloc(), 100_000) == Some(false));
+}
+
+// `def f(a0,a1,..):pass` with so many distinct parameters, and behind them the one of a number.
+fn def_of(alloc: Global, params: usize, last: usize) -> Result<String, AllocError> {
+    let mut text = String::new(alloc);
+    text.push_str("def f(")?;
+    for number in 0..params {
+        write!(text, "a{number},")?;
+    }
+    write!(text, "a{last}):pass\n")?;
+    Ok(text)
+}
+
+fn def_is_block(alloc: Global, params: usize, last: usize) -> Option<bool> {
+    let written = def_of(alloc, params, last).ok()?;
+    let text = PyText::from_str(alloc, written.as_str()).ok()?;
+    is_block(alloc, &text)
+}
+
+#[test]
+fn many_parameters_are_read(rt: HostRuntime) {
+    assert!(rt; def_is_block(rt.alloc(), 19_999, 19_999) == Some(true));
+}
+
+#[test]
+fn one_parameter_of_many_is_written_twice(rt: HostRuntime) {
+    assert!(rt; def_is_block(rt.alloc(), 20_000, 19_999) == Some(false));
 }

@@ -1,5 +1,5 @@
 -- What the reader's answer on all lexemes of a block says of the trees that they spell.
-use Rattle.std.proofs.Common.{◌≡◌, ℕ, ◌<◌, ◌≤◌, true, List, [], ◌∷◌, length, Option, Some, None, refl, sym, ap, ◌∙◌, arith}
+use Rattle.std.proofs.Common.{◌≡◌, ◌<◌, ◌≤◌, List, [], ◌∷◌, length, Some, None, sym, ap, ◌∙◌, arith}
 use Rattle.tx_tree.specs.Tree.{BlockTree}
 use Rattle.tx_parse.specs.Lexemes.{Lexeme}
 use Rattle.tx_parse.specs.Block.{IsBlock, NoBlock, most_levels}

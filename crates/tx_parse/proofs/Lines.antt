@@ -1,5 +1,5 @@
 -- Lexemes of a spelling spell the same tree with their lines.
-use Rattle.std.proofs.Common.{◌≡◌, ℕ, Bool, true, false, List, [], ◌∷◌, map, Option, Some, None, refl, sym, ap, ◌∙◌, subst}
+use Rattle.std.proofs.Common.{◌≡◌, ℕ, Bool, true, false, List, [], ◌∷◌, map, Option, Some, None, refl, ap, ◌∙◌, subst}
 use Rattle.tx_tree.specs.declared.operator.CompareOp.{CompareOp}
 use Rattle.tx_tree.specs.declared.operator.CompareOp.TheVariants as op
 use Rattle.tx_tree.specs.declared.symbol.Keyword.{Keyword}
@@ -15,7 +15,7 @@ use Rattle.tx_tree.specs.Spell.{spell_comma, spell_more_names, spell_names, text
 use Rattle.tx_tree.specs.Tree.{Tree, nil, truth, int, text, name, paren, tuple, bare_tuple, list, dict, comprehension, call, method, index, slice, unary, binary, compare, negation, conjunction, disjunction, conditional, Trees, none, more, PairTrees, no_pair, pair, Operands, no_operand, operand, MaybeTree, absent, present, Statement, pass, break, continue, return, assign, augment, express, branch, repeat, Body, line, indented, Statements, finish, next, Tail, nothing, otherwise, elif, ArgTree, lambda, plain, ArgTrees, HeadTree, LinkTree, ChainTree, BlockTree, define, pipeline, alone}
 use Rattle.tx_tree.specs.Bare.{bare_word, bare_target, bare, bare_each, bare_pairs, bare_operands, bare_maybe, bare_statement, bare_body, bare_statements, bare_tail, bare_arg, bare_args, bare_head, bare_link, bare_chain, bare_block}
 use Rattle.tx_parse.specs.Lexemes.{Lexeme, lexeme, line_at, kinds}
-use Rattle.tx_parse.specs.Spells.{Span, Lone, one, SpellsComma, SpellsWord, SpellsMore, SpellsList, SpellsNames, SpellsTarget, SpellsOp, Spells, SpellsItems, SpellsMoreItems, SpellsPairs, SpellsMorePairs, SpellsBehind, SpellsOperands, SpellsMaybe, SpellsCondition, SpellsStatement, SpellsBody, SpellsStatements, SpellsTail, SpellsArg, SpellsArgs, SpellsHeadArgs, SpellsHead, SpellsLink, SpellsLinks, SpellsChainIn, SpellsChain, SpellsBlock}
+use Rattle.tx_parse.specs.Spells.{Span, one, SpellsComma, SpellsWord, SpellsMore, SpellsList, SpellsNames, SpellsTarget, SpellsOp, Spells, SpellsItems, SpellsMoreItems, SpellsPairs, SpellsMorePairs, SpellsBehind, SpellsOperands, SpellsMaybe, SpellsCondition, SpellsStatement, SpellsBody, SpellsStatements, SpellsTail, SpellsArg, SpellsArgs, SpellsHeadArgs, SpellsHead, SpellsLinks, SpellsChainIn, SpellsChain, SpellsBlock}
 use Rattle.tx_parse.specs.Laws.{Relined, SpellingLaw}
 use Rattle.tx_parse.proofs.Targets.{SpellsName}
 use Rattle.tx_parse.proofs.Spellings.{Are, kinds_of}

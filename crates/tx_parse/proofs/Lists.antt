@@ -1,5 +1,5 @@
 -- The reader of lists with commas undoes their spelling, where that of their items does.
-use Rattle.std.proofs.Common.{◌≡◌, ◌⊎◌, inl, inr, ℕ, zero, suc, ◌≤◌, ◌<◌, Bool, true, false, List, [], ◌∷◌, ◌++◌, length, Option, Some, None, refl, sym, ap, ◌∙◌, subst, arith, append_assoc, append-nil}
+use Rattle.std.proofs.Common.{◌≡◌, ◌⊎◌, inl, inr, ℕ, zero, suc, ◌≤◌, ◌<◌, Bool, true, false, List, [], ◌∷◌, ◌++◌, length, Some, refl, sym, ap, ◌∙◌, subst, arith, append_assoc, append-nil}
 use Rattle.tx_tree.specs.declared.symbol.Mark.TheVariants as sign
 use Rattle.tx_tree.specs.Form.{amount, may_end}
 use Rattle.tx_parse.specs.declared.symbol.Symbol.{Symbol}
@@ -9,7 +9,7 @@ use Rattle.tx_parse.specs.Spells.{Span, SpellsMore, SpellsList}
 use Rattle.tx_parse.specs.Calls.Front.{rest_of, at}
 use Rattle.tx_parse.specs.Calls.Reader.{Reader, Listed, and_read, comma_by, item_by, more_items, items_behind, items_by, items}
 use Rattle.tx_parse.proofs.Options.{both_of, one_some}
-use Rattle.tx_parse.proofs.Fronts.{lone_mark, lone_shorter}
+use Rattle.tx_parse.proofs.Fronts.{lone_mark}
 
 abbrev pub Each : {A : Type 0} → (A → Type 0) → List A → Type 0
 Each P [] = Unit {0}

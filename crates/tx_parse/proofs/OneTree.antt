@@ -1,5 +1,5 @@
 -- One spelling is that of one tree, but for its lines.
-use Rattle.std.proofs.Common.{◌≡◌, ℕ, ◌≤◌, max, true, List, [], ◌∷◌, map, Option, Some, None, refl, sym, ap, ◌∙◌, arith}
+use Rattle.std.proofs.Common.{◌≡◌, max, true, List, [], ◌∷◌, map, Some, refl, sym, ap, ◌∙◌, arith}
 use Rattle.tx_tree.specs.Kind.{Kind}
 use Rattle.tx_tree.specs.Tree.{BlockTree}
 use Rattle.tx_tree.specs.Spell.{spelling}

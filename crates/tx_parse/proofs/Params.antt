@@ -1,6 +1,6 @@
 -- Names that are read are parameters where they are distinct.
-use Rattle.std.proofs.Common.{◌≡◌, ℕ, Bool, true, false, List, Option, Some, None, refl, sym, ap, ◌∙◌}
-use Rattle.tx_tree.specs.Form.{are_names, distinct, are_params}
+use Rattle.std.proofs.Common.{◌≡◌, ℕ, true, List, Some, ap, ◌∙◌}
+use Rattle.tx_tree.specs.Form.{are_names, distinct}
 use Rattle.tx_parse.specs.declared.symbol.Symbol.{Symbol}
 use Rattle.tx_parse.specs.Lexemes.{Lexeme}
 use Rattle.tx_parse.specs.Calls.Reader.{Listed, and_read, when, items, a_name}

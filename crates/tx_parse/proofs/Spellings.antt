@@ -1,5 +1,5 @@
 -- What a tree spells with its lines is its spelling.
-use Rattle.std.proofs.Common.{◌≡◌, ℕ, Bool, true, false, List, [], ◌∷◌, map, Option, Some, None, refl, sym, ap, ◌∙◌, subst}
+use Rattle.std.proofs.Common.{◌≡◌, ℕ, Bool, true, false, List, [], ◌∷◌, map, Option, Some, None, refl, ap, ◌∙◌}
 use Rattle.tx_tree.specs.declared.operator.CompareOp.{CompareOp}
 use Rattle.tx_tree.specs.declared.operator.CompareOp.TheVariants as op
 use Rattle.tx_tree.specs.declared.symbol.Keyword.{Keyword}
@@ -11,7 +11,7 @@ use Rattle.tx_tree.specs.declared.target.Target.TheVariants as target
 use Rattle.tx_tree.specs.Words.{binary_mark, augment_mark, unary_mark}
 use Rattle.tx_tree.specs.Kind.{Kind, named, keyword, number, quoted, mark, newline, indent, dedent}
 use Rattle.tx_tree.specs.Spell.{spell_comma, spell_more_names, spell_names, texts_of, spell_target, truth_word, spell_op, spell, spell_items, spell_more_items, spell_pairs, spell_more_pairs, spell_behind, spell_operands, spell_maybe, spell_condition, spell_statement, spell_body, spell_statements, spell_tail, spell_arg, spell_more_args, spell_arg_list, spell_args, spell_head_args, spell_head, spell_links, spell_chain_in, spell_block, spelling}
-use Rattle.tx_tree.specs.Tree.{Tree, nil, truth, int, text, name, paren, tuple, bare_tuple, list, dict, comprehension, call, method, index, slice, unary, binary, compare, negation, conjunction, disjunction, conditional, Trees, none, more, PairTrees, no_pair, pair, Operands, no_operand, operand, MaybeTree, absent, present, Statement, pass, break, continue, return, assign, augment, express, branch, repeat, Body, line, indented, Statements, finish, next, Tail, nothing, otherwise, elif, ArgTree, lambda, plain, ArgTrees, HeadTree, LinkTree, ChainTree, BlockTree, define, pipeline, alone}
+use Rattle.tx_tree.specs.Tree.{Tree, nil, truth, int, text, name, paren, tuple, bare_tuple, list, dict, comprehension, call, method, index, slice, unary, binary, compare, negation, conjunction, disjunction, conditional, Trees, none, more, PairTrees, no_pair, pair, Operands, no_operand, operand, MaybeTree, absent, present, Statement, pass, break, continue, return, assign, augment, express, branch, repeat, Body, line, indented, Statements, finish, next, Tail, nothing, otherwise, elif, ArgTree, lambda, plain, ArgTrees, HeadTree, LinkTree, BlockTree, define, pipeline, alone}
 use Rattle.tx_parse.specs.Lexemes.{Lexeme, kinds}
 use Rattle.tx_parse.specs.Spells.{Span, Lone, one, SpellsComma, SpellsWord, SpellsMore, SpellsList, SpellsNames, SpellsTarget, SpellsOp, Spells, SpellsItems, SpellsMoreItems, SpellsPairs, SpellsMorePairs, SpellsBehind, SpellsOperands, SpellsMaybe, SpellsCondition, SpellsStatement, SpellsBody, SpellsStatements, SpellsTail, SpellsArg, SpellsArgs, SpellsHeadArgs, SpellsHead, SpellsLinks, SpellsChainIn, SpellsBlock}
 

@@ -1,5 +1,5 @@
 -- What a lexeme opens or closes, and whether it is a keyword outside the language, are told by its symbol.
-use Rattle.std.proofs.Common.{◌≡◌, ℕ, Bool, true, false, Option, Some, None, refl, ap, ◌∙◌}
+use Rattle.std.proofs.Common.{◌≡◌, ℕ, Bool, true, false, Option, Some, None, refl}
 use Rattle.tx_tree.specs.declared.symbol.Keyword.{Keyword}
 use Rattle.tx_tree.specs.Kind as kind
 use Rattle.tx_tree.specs.Kind.{Kind}

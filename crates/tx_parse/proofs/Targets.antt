@@ -1,6 +1,5 @@
 -- The reader of names and targets undoes their spelling.
-use Rattle.std.proofs.Common.{◌≡◌, ◌⊎◌, inl, inr, ℕ, zero, suc, ◌≤◌, ◌<◌, Bool, true, false, ◌&&◌, List, [], ◌∷◌, ◌++◌, length, map, Option, Some, None, refl, sym, ap, ◌∙◌, subst, arith}
-use Rattle.std.specs.List.{list_all}
+use Rattle.std.proofs.Common.{◌≡◌, ℕ, ◌≤◌, Bool, true, false, List, [], ◌∷◌, ◌++◌, length, Some, None, refl, sym, ap, ◌∙◌, subst, arith}
 use Rattle.std.proofs.lemmas.Bool.{true≢false}
 use Rattle.tx_tree.specs.declared.symbol.Mark.TheVariants as sign
 use Rattle.tx_tree.specs.declared.target.Word.{Word}
@@ -12,12 +11,12 @@ use Rattle.tx_tree.specs.Form.{amount, may_end, is_listed, derived_target, is_na
 use Rattle.tx_parse.specs.declared.symbol.Symbol.{Symbol}
 use Rattle.tx_parse.specs.declared.symbol.Symbol.TheVariants as symbol
 use Rattle.tx_parse.specs.Lexemes.{Lexeme, line_at}
-use Rattle.tx_parse.specs.Spells.{Span, Lone, one, SpellsWord, SpellsMore, SpellsList, SpellsNames, SpellsTarget}
+use Rattle.tx_parse.specs.Spells.{Span, Lone, SpellsWord, SpellsList, SpellsTarget}
 use Rattle.tx_parse.specs.Calls.Front.{text_at, rest_of, at}
-use Rattle.tx_parse.specs.Calls.Reader.{Reader, Listed, give, and_read, when, behind, given, items, is_named, a_word, a_name, named_target, bracketed_target, target_by, target}
+use Rattle.tx_parse.specs.Calls.Reader.{give, and_read, when, behind, given, items, is_named, a_word, a_name, named_target, bracketed_target, target_by, target}
 use Rattle.tx_parse.proofs.Options.{both_of, held, one_some, given_of, and_both, and_left, and_right}
 use Rattle.tx_parse.proofs.Fronts.{at_name, at_mark, lone, lone_mark, lone_shorter, one_shorter}
-use Rattle.tx_parse.proofs.Lists.{Each, FoundItem, FoundList, SoundItem, Ends, CompleteItem, items_sound, items_complete, list_longer}
+use Rattle.tx_parse.proofs.Lists.{Each, FoundItem, FoundList, SoundItem, CompleteItem, items_sound, items_complete, list_longer}
 
 -- ---- names
 

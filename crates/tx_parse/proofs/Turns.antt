@@ -1,5 +1,5 @@
 -- One more turn of a loop that counts up to an end, and one more level.
-use Rattle.std.proofs.Common.{◌≡◌, ℕ, zero, suc, ◌+◌, ◌-◌, ◌<◌, ◌≤◌, max, Bool, List, [], ◌∷◌, ◌++◌, length, map, Option, Some, refl, ap, sym, ◌∙◌, arith}
+use Rattle.std.proofs.Common.{◌≡◌, ℕ, zero, suc, ◌+◌, ◌-◌, ◌<◌, max, List, [], ◌∷◌, ◌++◌, length, Option, Some, ap, sym, ◌∙◌, arith}
 use Rattle.std.proofs.lemmas.List.{map-append}
 use Rattle.tx_tree.specs.declared.operator.CompareOp.{CompareOp}
 use Rattle.tx_tree.specs.declared.symbol.Mark.TheVariants as sign
@@ -10,7 +10,7 @@ use Rattle.tx_parse.specs.declared.symbol.Symbol.TheVariants as symbol
 use Rattle.tx_parse.specs.declared.place.Place.{Place}
 use Rattle.tx_parse.specs.Lexemes.{Lexeme}
 use Rattle.tx_parse.specs.Calls.Front.{at, compare_at}
-use Rattle.tx_parse.specs.Calls.Reader.{Reader, Listed, and_read, item_by, more_items, items_behind, trails, post_by, posts, operated, operations, op_at, compared_by, comparisons, joint, joint_by, joints, at_place, read}
+use Rattle.tx_parse.specs.Calls.Reader.{Reader, and_read, item_by, more_items, items_behind, trails, post_by, posts, operated, operations, op_at, compared_by, comparisons, joint, joint_by, joints, at_place, read}
 
 pub one_fewer : (m t : ℕ) → t < m → m - t ≡ suc (m - (t + 1))
 one_fewer m t h = omega arith

@@ -1,9 +1,6 @@
 // Chains and definitions.
 ghost use Rattle.std.specs.Prelude.{◌≡◌, ◌≤◌, IfOk, Err, None, Some, map};
-ghost use Rattle.std.specs.List.{list_any};
 ghost use Rattle.tx_tree.specs.Tree.{arg_of, args_of, head_of, link_of, chain_of, block_of};
-ghost use Rattle.tx_tree.specs.Words.{same_text};
-ghost use Rattle.tx_tree.specs.Form.{distinct};
 ghost use Rattle.tx_parse.specs.Calls.Reader.{items, items_behind, and_read};
 ghost use Rattle.tx_parse.specs.Calls.Blocks.{params, arg, chain_args, head, link, links, chain, definition, named_chain, block};
 
@@ -15,38 +12,11 @@ use crate::statement::suite;
 use crate::symbol::Symbol;
 use crate::target::{name, names, word};
 use std::alloc::Global;
-use tx_text::{PyText, Texts};
+use tx_name_set::are_distinct;
+use tx_text::Texts;
 use tx_tree::{Arg, ArgList, Args, Block, Chain, Head, Keyword, Link, Links, Mark};
 
 // ---- parameters
-
-fn is_same(name: &PyText, other: &PyText) -> bool
-    ensures { result ≡ same_text name.now other.now }
-{
-    name.equal(other)
-}
-
-fn is_among(name: &PyText, names: &[PyText]) -> bool
-    ensures { result ≡ list_any (same_text name.now) names.now }
-{
-    for other in names {
-        if is_same(name, other) {
-            return true;
-        }
-    }
-    false
-}
-
-fn are_distinct(names: &[PyText]) -> bool
-    ensures { result ≡ distinct names.now }
-{
-    for i in 0..names.len() {
-        if is_among(&names[i], &names[i + 1..]) {
-            return false;
-        }
-    }
-    true
-}
 
 // Distinct names up to a symbol, and whether a comma stands behind the last.
 fn params(alloc: Global, end: Symbol, cursor: &mut Cursor) -> Result<(Texts, bool), Fault>
@@ -54,7 +24,7 @@ fn params(alloc: Global, end: Symbol, cursor: &mut Cursor) -> Result<(Texts, boo
     ensures none { result ≡ Err Fault.NotABlock → params end cursor.old ≡ None }
 {
     let (params, comma) = names(alloc, end, cursor)?;
-    if !are_distinct(params.as_slice()) {
+    if !are_distinct(alloc, params.as_slice())? {
         return Err(Fault::NotABlock);
     }
     Ok((params, comma))

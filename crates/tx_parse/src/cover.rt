@@ -1,6 +1,6 @@
 // The blocks of a script: where each begins and ends in its tokens.
 ghost use Rattle.std.specs.Prelude.{◌≡◌, ◌<◌, ◌-◌, ◌^◌, IfOk};
-ghost use Rattle.tx_parse.specs.Spans.{blocks_of, open_behind, fresh_behind, begins};
+ghost use Rattle.tx_parse.specs.Spans.{spans_of, open_behind, fresh_behind, begins};
 
 use std::alloc::Global;
 use tx_text::{NoMemory, Sequence};
@@ -18,13 +18,14 @@ pub type Spans = Sequence<Span>;
 
 /// The spans of all blocks, in order. A block is the tokens from one line in column 0 to before the next such line.
 pub fn blocks(alloc: Global, t: &TokenList) -> Result<Spans, NoMemory>
-    ensures { IfOk result (λ ss. ss ≡ blocks_of t.now) }
+    ensures { IfOk result (λ ss. ss ≡ spans_of t.now) }
 {
     spans(alloc, t.as_slice())
 }
 
+#[tactic(auto, using(crate::proofs::Covers::walk_is_spans))]
 fn spans(alloc: Global, tokens: &[Token]) -> Result<Spans, NoMemory>
-    ensures { IfOk result (λ ss. ss ≡ blocks_of tokens.now) }
+    ensures { IfOk result (λ ss. ss ≡ spans_of tokens.now) }
 {
     let mut done = Spans::new(alloc);
     let Some((first, rest)) = tokens.split_first() else {

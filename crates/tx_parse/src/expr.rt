@@ -1,6 +1,6 @@
 // Expressions, each with its depth. What is read is at most so many levels deep: a part that was read before its node was
 // known is tested before reading on, so no deeper tree is ever made.
-ghost use Rattle.std.specs.Prelude.{◌≡◌, ◌≢◌, ◌≤◌, ◌<◌, ◌+◌, ◌++◌, ◌∷◌, max, length, IfOk, OnOk, Err, None, Some, true, false, [], map, option_map};
+ghost use Rattle.std.specs.Prelude.{◌≡◌, ◌≢◌, ◌≤◌, ◌<◌, ◌+◌, ◌++◌, ◌∷◌, max, length, IfOk, OnOk, Err, None, Some, true, false, [], map};
 ghost use Rattle.tx_tree.specs.Tree.{text, binary, tree_of, trees, maybe_of, pair_of, pair_trees, operand_of, operands};
 ghost use Rattle.tx_tree.specs.Depth.{depth, depth_each, depth_pairs, depth_operands, depth_maybe};
 ghost use Rattle.tx_parse.specs.Lexemes.{line_at};

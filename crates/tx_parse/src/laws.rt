@@ -1,5 +1,5 @@
 // Laws of the definitions, each the contract of a function that does nothing.
-ghost use Rattle.tx_parse.specs.Laws.{SpellingLaw, OneTreeLaw, OneBlockLaw, InProfileLaw, CoverLaw};
+ghost use Rattle.tx_parse.specs.Laws.{SpellingLaw, OneTreeLaw, OneBlockLaw, InProfileLaw, CoverLaw, LinesLaw};
 
 use tx_tree::lines_are_left_out;
 
@@ -29,4 +29,9 @@ pub fn blocks_are_in_profile()
 /// Blocks cover the tokens.
 pub fn blocks_cover_the_tokens()
     ensures { CoverLaw }
+{}
+
+/// Each block but the first begins at the first token of a line in column 0, and no other token of a block does.
+pub fn blocks_begin_at_lines()
+    ensures { LinesLaw }
 {}

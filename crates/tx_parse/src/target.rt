@@ -1,9 +1,7 @@
 // Names, lists of names, and targets.
 ghost use Rattle.std.specs.Prelude.{◌≡◌, IfOk, Err, None, Some, true};
-ghost use Rattle.tx_tree.specs.declared.target.Target.TheVariants as target_variants;
 ghost use Rattle.tx_tree.specs.Form.{amount, is_listed};
 ghost use Rattle.tx_parse.specs.Calls.Reader.{a_word, a_name, items, items_behind, named_target, target, bracketed_target, target_by, and_read};
-ghost use Rattle.tx_parse.specs.Calls.Front.{rest_of};
 
 use crate::cursor::Cursor;
 use crate::fault::Fault;

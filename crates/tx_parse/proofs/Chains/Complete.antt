@@ -1,31 +1,29 @@
 -- The reader of blocks finds the tree of each spelling, with its lines.
-use Rattle.std.proofs.Common.{◌≡◌, ℕ, zero, suc, ◌<◌, ◌≤◌, max, Bool, true, false, not, ◌&&◌, List, [], ◌∷◌, ◌++◌, length, Option, Some, None, refl, sym, ap, ◌∙◌, subst, arith, append_assoc, append-nil}
+use Rattle.std.proofs.Common.{◌≡◌, ℕ, zero, suc, ◌<◌, ◌≤◌, Bool, true, false, ◌&&◌, List, [], ◌∷◌, ◌++◌, length, Option, Some, None, refl, sym, ap, ◌∙◌, arith, append_assoc, append-nil}
 use Rattle.std.specs.List.{list_all}
 use Rattle.tx_tree.specs.declared.symbol.Keyword.TheVariants as word
 use Rattle.tx_tree.specs.declared.symbol.Mark.TheVariants as sign
 use Rattle.tx_tree.specs.declared.target.Word.{Word}
 use Rattle.tx_tree.specs.Kind as kind
-use Rattle.tx_tree.specs.Kind.{Kind}
-use Rattle.tx_tree.specs.Tree.{Tree, Body, ArgTree, lambda, plain, ArgTrees, HeadTree, LinkTree, ChainTree, BlockTree, define, pipeline, alone}
-use Rattle.tx_tree.specs.Form.{fits, fine, amount, may_end, is_name, are_names, distinct, are_params, derived_body, fine_body, fine_arg, fine_args, fine_head_args, fine_head, fine_link, fine_chain, well_formed}
-use Rattle.tx_tree.specs.Depth.{depth, depth_body, depth_arg, depth_args, depth_head, depth_links, depth_chain, depth_block}
+use Rattle.tx_tree.specs.Tree.{Body, ArgTree, lambda, plain, ArgTrees, HeadTree, LinkTree, ChainTree, BlockTree, define, pipeline, alone}
+use Rattle.tx_tree.specs.Form.{fits, amount, may_end, is_name, are_params, derived_body, fine_arg, fine_args, fine_head_args, fine_head, fine_link, fine_chain, well_formed}
+use Rattle.tx_tree.specs.Depth.{depth_body, depth_arg, depth_args, depth_head, depth_links, depth_chain, depth_block}
 use Rattle.tx_parse.specs.declared.symbol.Symbol.{Symbol}
 use Rattle.tx_parse.specs.declared.symbol.Symbol.TheVariants as symbol
 use Rattle.tx_parse.specs.declared.place.Place.TheVariants as place
 use Rattle.tx_parse.specs.Lexemes.{Lexeme, lexeme, line_at}
-use Rattle.tx_parse.specs.Spells.{Span, Lone, Seq, On, one, SpellsMore, SpellsList, SpellsNames, SpellsWord, Spells, SpellsBody, SpellsArg, SpellsArgs, SpellsHeadArgs, SpellsHead, SpellsLink, SpellsLinks, SpellsChainIn, SpellsChain, SpellsBlock}
-use Rattle.tx_parse.specs.Calls.Front.{symbol_of, symbol_at, rest_of, same_symbol, at}
-use Rattle.tx_parse.specs.Calls.Reader.{Reader, Listed, give, and_read, when, behind, items, a_word, a_name, read}
+use Rattle.tx_parse.specs.Spells.{Lone, Seq, SpellsNames, SpellsWord, SpellsArg, SpellsArgs, SpellsHeadArgs, SpellsHead, SpellsLinks, SpellsChainIn, SpellsChain, SpellsBlock}
+use Rattle.tx_parse.specs.Calls.Front.{rest_of, same_symbol, at}
+use Rattle.tx_parse.specs.Calls.Reader.{give, and_read, when, behind, items, a_name, read}
 use Rattle.tx_parse.specs.Calls.Statements.{suite, statement}
 use Rattle.tx_parse.specs.Calls.Blocks as reader
-use Rattle.tx_parse.specs.Calls.Blocks.{params_of, params, lambda_of, arg_by, arg, chain_args, head_by, head, link, link_by, more_links, links, chain_by, chain, defined, definition, named_chain, block_by, block}
-use Rattle.tx_parse.proofs.Options.{both_of, held, one_some, and_both, and_left, and_right}
+use Rattle.tx_parse.specs.Calls.Blocks.{params_of, params, lambda_of, arg_by, arg, chain_args, head_by, head, link, link_by, more_links, links, chain_by, chain, defined, block_by, block}
+use Rattle.tx_parse.proofs.Options.{and_left, and_right}
 use Rattle.tx_parse.proofs.Fronts.{at_only}
 use Rattle.tx_parse.proofs.Lists.{Each, Ends, CompleteItem, items_complete, list_longer}
-use Rattle.tx_parse.proofs.Targets.{GoodWord, GoodName, SpellsName, word_complete, name_complete, ListEnd, names_items, named_names}
-use Rattle.tx_parse.proofs.Expressions.Places.{continues}
-use Rattle.tx_parse.proofs.Expressions.Trees.{opens, spelled_begins, no_longer, strictly}
-use Rattle.tx_parse.proofs.Expressions.Complete.{read_complete, opens_apart, stops_lone, stops_end, TreeEnd}
+use Rattle.tx_parse.proofs.Targets.{GoodName, SpellsName, word_complete, name_complete, ListEnd, names_items, named_names}
+use Rattle.tx_parse.proofs.Expressions.Trees.{spelled_begins, no_longer, strictly}
+use Rattle.tx_parse.proofs.Expressions.Complete.{read_complete, opens_apart, stops_end}
 use Rattle.tx_parse.proofs.Statements.Complete.{suite_complete, statement_complete}
 
 close_end : ListEnd (symbol.Mark sign.Close)

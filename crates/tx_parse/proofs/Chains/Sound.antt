@@ -1,28 +1,27 @@
 -- What the reader of blocks finds is spelled by what it has read.
-use Rattle.std.proofs.Common.{◌≡◌, ℕ, zero, suc, ◌≤◌, max, Bool, true, false, not, ◌&&◌, List, [], ◌∷◌, ◌++◌, length, Option, Some, None, refl, sym, ap, ◌∙◌, subst, arith, append_assoc, append-nil}
+use Rattle.std.proofs.Common.{◌≡◌, ℕ, zero, suc, ◌≤◌, Bool, true, false, not, ◌&&◌, List, [], ◌∷◌, ◌++◌, length, Option, Some, None, refl, sym, ap, ◌∙◌, subst, arith, append_assoc, append-nil}
 use Rattle.std.specs.List.{list_all}
 use Rattle.tx_tree.specs.declared.symbol.Keyword.TheVariants as word
 use Rattle.tx_tree.specs.declared.symbol.Mark.TheVariants as sign
 use Rattle.tx_tree.specs.declared.target.Word.{Word}
 use Rattle.tx_tree.specs.Kind as kind
-use Rattle.tx_tree.specs.Kind.{Kind}
-use Rattle.tx_tree.specs.Tree.{Tree, Body, ArgTree, lambda, plain, ArgTrees, HeadTree, LinkTree, ChainTree, BlockTree, define, pipeline, alone}
-use Rattle.tx_tree.specs.Form.{fits, fine, amount, may_end, is_name, are_names, distinct, are_params, derived_body, fine_body, fine_arg, fine_args, fine_head_args, fine_head, fine_link, fine_chain, well_formed}
-use Rattle.tx_tree.specs.Depth.{depth, depth_body, depth_arg, depth_args, depth_head, depth_links, depth_chain, depth_block}
+use Rattle.tx_tree.specs.Tree.{ArgTree, lambda, plain, ArgTrees, HeadTree, LinkTree, ChainTree, BlockTree, define, pipeline, alone}
+use Rattle.tx_tree.specs.Form.{amount, may_end, are_params, fine_arg, fine_args, fine_head, fine_link, fine_chain, well_formed}
+use Rattle.tx_tree.specs.Depth.{depth_arg, depth_args, depth_head, depth_links, depth_chain, depth_block}
 use Rattle.tx_parse.specs.declared.symbol.Symbol.{Symbol}
 use Rattle.tx_parse.specs.declared.symbol.Symbol.TheVariants as symbol
 use Rattle.tx_parse.specs.declared.place.Place.TheVariants as place
 use Rattle.tx_parse.specs.Lexemes.{Lexeme, lexeme, line_at}
-use Rattle.tx_parse.specs.Spells.{Span, Lone, Seq, On, one, SpellsMore, SpellsList, SpellsNames, SpellsWord, Spells, SpellsBody, SpellsArg, SpellsArgs, SpellsHeadArgs, SpellsHead, SpellsLink, SpellsLinks, SpellsChainIn, SpellsChain, SpellsBlock}
-use Rattle.tx_parse.specs.Calls.Front.{symbol_of, symbol_at, rest_of, same_symbol, at}
-use Rattle.tx_parse.specs.Calls.Reader.{Reader, Listed, give, and_read, when, behind, items, a_word, a_name, read}
+use Rattle.tx_parse.specs.Spells.{Lone, Seq, SpellsNames, SpellsWord, SpellsArg, SpellsArgs, SpellsHead, SpellsLink, SpellsLinks, SpellsChainIn, SpellsChain, SpellsBlock}
+use Rattle.tx_parse.specs.Calls.Front.{rest_of, at}
+use Rattle.tx_parse.specs.Calls.Reader.{Reader, Listed, give, and_read, behind, items, a_word, a_name, read}
 use Rattle.tx_parse.specs.Calls.Statements.{suite, statement}
 use Rattle.tx_parse.specs.Calls.Blocks as reader
 use Rattle.tx_parse.specs.Calls.Blocks.{params_of, params, lambda_of, arg_by, arg, chain_args, head_by, head, link, link_by, more_links, links, chain_by, chain, defined, definition, named_chain, block_by, block}
-use Rattle.tx_parse.proofs.Options.{both_of, held, one_some, and_both, and_left, and_right}
-use Rattle.tx_parse.proofs.Fronts.{at_mark, at_word, at_name, lone, lone_mark, lone_word, at_newline}
-use Rattle.tx_parse.proofs.Lists.{Each, FoundItem, FoundList, SoundItem, items_sound}
-use Rattle.tx_parse.proofs.Targets.{GoodWord, GoodName, SpellsName, word_sound, name_sound, names_named}
+use Rattle.tx_parse.proofs.Options.{both_of, held, and_both}
+use Rattle.tx_parse.proofs.Fronts.{at_mark, at_word, lone, lone_mark, at_newline}
+use Rattle.tx_parse.proofs.Lists.{Each, FoundItem, SoundItem, items_sound}
+use Rattle.tx_parse.proofs.Targets.{GoodWord, GoodName, SpellsName, word_sound, name_sound}
 use Rattle.tx_parse.proofs.Expressions.Sound.{read_sound, there, closed_of}
 use Rattle.tx_parse.proofs.Statements.Sound.{suite_sound, statement_sound}
 

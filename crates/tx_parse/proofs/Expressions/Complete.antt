@@ -1,5 +1,5 @@
 -- The reader of expressions finds the tree of each spelling, with its lines.
-use Rattle.std.proofs.Common.{◌≡◌, ◌⊎◌, inl, inr, ℕ, ℤ, zero, suc, ◌≤◌, ◌<◌, ◌+◌, max, Bool, true, false, not, ◌&&◌, ◌||◌, nat_le, List, [], ◌∷◌, ◌++◌, length, Option, Some, None, refl, sym, ap, ◌∙◌, subst, arith, append_assoc, append-nil}
+use Rattle.std.proofs.Common.{◌≡◌, ◌⊎◌, inl, inr, ℕ, ℤ, zero, suc, ◌≤◌, ◌<◌, ◌+◌, Bool, true, false, not, ◌||◌, nat_le, List, [], ◌∷◌, ◌++◌, length, Option, Some, None, refl, sym, ap, ◌∙◌, subst, arith, append_assoc, append-nil}
 use Rattle.std.proofs.lemmas.Bool.{leb-true, leb-false, le-leb}
 use Rattle.tx_tree.specs.declared.operator.BinaryOp.{BinaryOp}
 use Rattle.tx_tree.specs.declared.operator.BinaryOp.TheVariants as binary_op
@@ -16,26 +16,25 @@ use Rattle.tx_tree.specs.declared.target.Target.{Target}
 use Rattle.tx_tree.specs.Words.{binary_mark, unary_mark}
 use Rattle.tx_tree.specs.Kind as kind
 use Rattle.tx_tree.specs.Kind.{Kind}
-use Rattle.tx_tree.specs.Spell.{truth_word}
 use Rattle.tx_tree.specs.Tree.{Tree, nil, truth, int, text, name, paren, tuple, bare_tuple, list, dict, comprehension, call, method, index, slice, unary, binary, compare, negation, conjunction, disjunction, conditional, Trees, none, more, PairTrees, no_pair, pair, Operands, no_operand, operand, MaybeTree, absent, present, trees, pair_trees, operands}
 use Rattle.tx_parse.specs.declared.symbol.Symbol.{Symbol}
 use Rattle.tx_parse.specs.declared.symbol.Symbol.TheVariants as symbol
 use Rattle.tx_parse.specs.declared.place.Place.{Place}
 use Rattle.tx_parse.specs.declared.place.Place.TheVariants as place
 use Rattle.tx_parse.specs.Lexemes.{Lexeme, lexeme, line_at}
-use Rattle.tx_tree.specs.Form.{level, level_of_op, fits, fits_each, fits_pairs, fits_operands, fits_maybe, amount, amount_of_trees, amount_of_pairs, amount_of_operands, has_items, may_end, makes_tuple, derived_target, derived, sound, fine, fine_each, fine_pairs, fine_operands, fine_maybe, is_name, is_literal, is_identity, is_nil, identities_with_none}
+use Rattle.tx_tree.specs.Form.{level, level_of_op, fits, fits_each, fits_pairs, fits_operands, fits_maybe, amount, amount_of_trees, amount_of_pairs, amount_of_operands, has_items, may_end, makes_tuple, derived_target, derived, sound, fine, fine_each, fine_pairs, fine_operands, fine_maybe, is_literal, identities_with_none}
 use Rattle.tx_tree.specs.Depth.{depth, depth_each, depth_pairs, depth_operands, depth_maybe}
 use Rattle.tx_parse.specs.Spells.{Span, Lone, Seq, On, one, SpellsMore, SpellsList, SpellsWord, SpellsOp, Spells, SpellsItems, SpellsMoreItems, SpellsPairs, SpellsMorePairs, SpellsBehind, SpellsOperands, SpellsMaybe, SpellsCondition}
-use Rattle.tx_parse.specs.Calls.Front.{symbol_of, symbol_at, text_at, number_at, rest_of, same_symbol, at, binary_at, unary_at, compare_at, compare_by, word_compare, not_in, is_or_not, behind_op}
+use Rattle.tx_parse.specs.Calls.Front.{symbol_of, symbol_at, rest_of, same_symbol, at, binary_at, unary_at, compare_at, compare_by, not_in, is_or_not, behind_op}
 use Rattle.tx_parse.specs.Calls.Reader as reader
-use Rattle.tx_parse.specs.Calls.Reader.{Reader, Listed, give, and_read, when, behind, given, items, items_behind, a_word, target, tighter, joint, is_joint, has_operator, joined_tree, compared_tree, place_of_op, op_in, op_of, op_at, literal, bracketed, bracketed_by, may_compare, trails, index_of, args, name_by, condition_by, condition, conditioned, iterated, comprehended, element_by, square_by, square, brace, bracket_by, atom_by, atom, called, method_of, bound_by, bound, subscript_by, subscript, post, post_by, posts, postfix, unary_by, signed, operated, operations, leaning, compared_by, comparisons, comparing, negation_by, negating, joint_by, joints, joining, other_arm, test_by, choosing, a_term, a_sum, a_comparison, a_negation, a_conjunction, a_disjunction, a_test, at_place, read}
+use Rattle.tx_parse.specs.Calls.Reader.{Reader, give, and_read, when, behind, given, tighter, joint, is_joint, has_operator, joined_tree, compared_tree, op_of, literal, bracketed, bracketed_by, may_compare, trails, args, name_by, condition_by, condition, conditioned, iterated, element_by, square_by, square, atom, called, method_of, bound_by, bound, subscript_by, subscript, post, post_by, posts, postfix, unary_by, signed, operated, operations, leaning, compared_by, comparisons, comparing, negation_by, negating, joint_by, joints, joining, other_arm, test_by, choosing, a_term, a_sum, a_comparison, a_negation, a_conjunction, a_disjunction, a_test, at_place, read}
 use Rattle.tx_parse.proofs.Options.{and_both, and_left, and_right}
 use Rattle.tx_parse.proofs.Symbols.{same_symbol-refl}
-use Rattle.tx_parse.proofs.Fronts.{at_only, lone_shorter, one_shorter}
+use Rattle.tx_parse.proofs.Fronts.{at_only}
 use Rattle.tx_parse.proofs.Lists.{Each, Ends, CompleteItem, items_complete, behind_complete}
 use Rattle.tx_parse.proofs.Targets.{GoodWord, word_complete, ListEnd, target_complete}
-use Rattle.tx_parse.proofs.Expressions.Places.{number, fits_looser, continues}
-use Rattle.tx_parse.proofs.Expressions.Trees.{GoodTree, good_trees, list_of, trees-list_of, amount-list_of, list_of_items, list_of_more, asked, Begins, opens, spelled_begins, no_longer, strictly, op_shorter, items_longer, maybe_longer}
+use Rattle.tx_parse.proofs.Expressions.Places.{number, continues}
+use Rattle.tx_parse.proofs.Expressions.Trees.{GoodTree, good_trees, list_of, trees-list_of, amount-list_of, list_of_items, list_of_more, asked, opens, spelled_begins, no_longer, strictly, op_shorter, items_longer, maybe_longer}
 
 abbrev pub CompleteAt : ℕ → ℕ → Reader Tree → Type 0
 CompleteAt p n f = (t : Tree) (ts r : List Lexeme) → Spells t ts r → fine t ≡ true → fits p t ≡ true → depth t ≤ n → continues (symbol_at r) < p → f ts ≡ Some (t, r)

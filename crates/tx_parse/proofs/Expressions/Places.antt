@@ -1,21 +1,18 @@
 -- Places as numbers, and what may stand behind a tree of a place.
-use Rattle.std.proofs.Common.{◌≡◌, ℕ, ◌≤◌, ◌<◌, ◌+◌, ◌-◌, Bool, true, false, nat_le, List, Option, Some, None, refl, ap, arith}
+use Rattle.std.proofs.Common.{◌≡◌, ℕ, ◌≤◌, ◌<◌, ◌-◌, true, List, arith}
 use Rattle.std.proofs.lemmas.Bool.{leb-true, le-leb}
-use Rattle.tx_tree.specs.declared.operator.BinaryOp.{BinaryOp}
-use Rattle.tx_tree.specs.declared.operator.BinaryOp.TheVariants as binary_op
 use Rattle.tx_tree.specs.declared.symbol.Keyword.{Keyword}
 use Rattle.tx_tree.specs.declared.symbol.Keyword.TheVariants as word
 use Rattle.tx_tree.specs.declared.symbol.Mark.{Mark}
 use Rattle.tx_tree.specs.declared.symbol.Mark.TheVariants as sign
 use Rattle.tx_tree.specs.Tree.{Tree}
-use Rattle.tx_tree.specs.Form.{level, fits, at_test, at_or, at_and, at_not, at_compare, at_sum, at_term, at_unary, at_postfix, level_of_op}
+use Rattle.tx_tree.specs.Form.{level, fits, at_test, at_or, at_and, at_not, at_compare, at_sum, at_term, at_unary, at_postfix}
 use Rattle.tx_parse.specs.declared.symbol.Symbol.{Symbol}
 use Rattle.tx_parse.specs.declared.symbol.Symbol.TheVariants as symbol
 use Rattle.tx_parse.specs.declared.place.Place.{Place}
 use Rattle.tx_parse.specs.declared.place.Place.TheVariants as place
 use Rattle.tx_parse.specs.Lexemes.{Lexeme}
 use Rattle.tx_parse.specs.Calls.Front.{symbol_at}
-use Rattle.tx_parse.specs.Calls.Reader.{tighter, is_joint, has_operator}
 
 -- the production that a place names
 abbrev pub number : Place → ℕ

@@ -1,5 +1,5 @@
 -- What the reader of expressions finds is spelled by what it has read, and has the levels that it was given.
-use Rattle.std.proofs.Common.{◌≡◌, ℕ, ℤ, zero, suc, ◌≤◌, ◌<◌, ◌+◌, max, Bool, true, false, not, ◌&&◌, ◌||◌, nat_le, List, [], ◌∷◌, ◌++◌, length, Option, Some, None, refl, sym, ap, ◌∙◌, subst, arith, append_assoc, append-nil}
+use Rattle.std.proofs.Common.{◌≡◌, ℕ, ℤ, zero, suc, ◌≤◌, ◌<◌, ◌+◌, Bool, true, false, not, ◌&&◌, ◌||◌, nat_le, List, [], ◌∷◌, ◌++◌, length, Option, Some, None, refl, sym, ap, ◌∙◌, subst, arith, append_assoc, append-nil}
 use Rattle.std.proofs.lemmas.Bool.{leb-true, le-leb}
 use Rattle.tx_tree.specs.declared.operator.BinaryOp.{BinaryOp}
 use Rattle.tx_tree.specs.declared.operator.BinaryOp.TheVariants as binary_op
@@ -11,28 +11,24 @@ use Rattle.tx_tree.specs.declared.symbol.Keyword.{Keyword}
 use Rattle.tx_tree.specs.declared.symbol.Keyword.TheVariants as word
 use Rattle.tx_tree.specs.declared.symbol.Mark.{Mark}
 use Rattle.tx_tree.specs.declared.symbol.Mark.TheVariants as sign
-use Rattle.tx_tree.specs.declared.target.Word.{Word}
-use Rattle.tx_tree.specs.declared.target.Target.{Target}
 use Rattle.tx_tree.specs.Words.{binary_mark, unary_mark}
 use Rattle.tx_tree.specs.Kind as kind
-use Rattle.tx_tree.specs.Kind.{Kind}
-use Rattle.tx_tree.specs.Spell.{truth_word}
-use Rattle.tx_tree.specs.Tree.{Tree, nil, truth, int, text, name, paren, tuple, bare_tuple, list, dict, comprehension, call, method, index, slice, unary, binary, compare, negation, conjunction, disjunction, conditional, Trees, none, more, PairTrees, no_pair, pair, Operands, no_operand, operand, MaybeTree, absent, present, trees, pair_trees, operands}
+use Rattle.tx_tree.specs.Tree.{Tree, nil, truth, int, text, name, tuple, list, dict, comprehension, call, method, index, slice, unary, binary, negation, conditional, Trees, none, more, pair, Operands, no_operand, operand, MaybeTree, absent, present, trees, pair_trees, operands}
 use Rattle.tx_parse.specs.declared.symbol.Symbol.{Symbol}
 use Rattle.tx_parse.specs.declared.symbol.Symbol.TheVariants as symbol
 use Rattle.tx_parse.specs.declared.place.Place.{Place}
 use Rattle.tx_parse.specs.declared.place.Place.TheVariants as place
-use Rattle.tx_parse.specs.Lexemes.{Lexeme, lexeme, line_at}
-use Rattle.tx_tree.specs.Form.{level, level_of_op, fits, fits_each, fits_pairs, fits_operands, at_test, at_or, at_sum, at_not, at_unary, at_postfix, amount, amount_of_trees, amount_of_pairs, amount_of_operands, has_items, may_end, makes_tuple, derived, sound, fine, fine_each, fine_pairs, fine_operands, fine_maybe, fits_maybe, is_listed, is_name, is_literal, is_identity, is_nil, identities_with_none}
+use Rattle.tx_parse.specs.Lexemes.{Lexeme, line_at}
+use Rattle.tx_tree.specs.Form.{level_of_op, fits, fits_each, fits_pairs, fits_operands, amount, amount_of_trees, amount_of_pairs, amount_of_operands, has_items, may_end, makes_tuple, derived, sound, fine, fine_each, fine_pairs, fine_operands, fine_maybe, fits_maybe, is_name, is_literal, identities_with_none}
 use Rattle.tx_tree.specs.Depth.{depth, depth_each, depth_pairs, depth_operands, depth_maybe}
-use Rattle.tx_parse.specs.Spells.{Span, Lone, Seq, On, one, SpellsComma, SpellsMore, SpellsList, SpellsWord, SpellsOp, Spells, SpellsItems, SpellsPairs, SpellsMorePairs, SpellsBehind, SpellsOperands, SpellsMaybe, SpellsCondition}
-use Rattle.tx_parse.specs.Calls.Front.{symbol_at, text_at, number_at, rest_of, at, binary_at, unary_at, mark_binary, mark_unary, compare_at, compare_by, mark_compare, word_compare, not_in, is_or_not, behind_op}
+use Rattle.tx_parse.specs.Spells.{Span, Lone, Seq, one, SpellsMore, SpellsList, SpellsOp, Spells, SpellsItems, SpellsPairs, SpellsMorePairs, SpellsBehind, SpellsOperands, SpellsMaybe, SpellsCondition}
+use Rattle.tx_parse.specs.Calls.Front.{symbol_at, text_at, number_at, rest_of, at, binary_at, unary_at, compare_at, compare_by, mark_compare, word_compare, not_in, is_or_not, behind_op}
 use Rattle.tx_parse.specs.Calls.Reader as reader
-use Rattle.tx_parse.specs.Calls.Reader.{Reader, Listed, give, and_read, when, behind, given, items, items_behind, a_word, target, tighter, joint, is_joint, has_operator, joined_tree, compared_tree, place_of_op, op_in, op_of, op_at, literal, bracketed, bracketed_by, may_compare, trails, index_of, args, name_by, condition_by, condition, conditioned, iterated, comprehended, element_by, square_by, square, brace, bracket_by, atom_by, atom, called, method_of, bound_by, bound, subscript_by, subscript, post, post_by, posts, postfix, unary_by, signed, operated, operations, leaning, compared_by, comparisons, comparing, negation_by, negating, joint_by, joints, joining, other_arm, test_by, choosing, a_term, a_sum, a_comparison, a_negation, a_conjunction, a_disjunction, a_test, at_place, read}
-use Rattle.tx_parse.proofs.Options.{both_of, held, one_some, given_of, and_both, and_left, and_right}
-use Rattle.tx_parse.proofs.Fronts.{word_front, mark_front, name_front, number_front, quoted_front, at_mark, at_word, lone, lone_mark, lone_word}
-use Rattle.tx_parse.proofs.Lists.{Each, FoundItem, FoundMore, FoundList, SoundItem, items_sound, behind_sound, whole_list}
-use Rattle.tx_parse.proofs.Targets.{GoodWord, word_sound, target_sound}
+use Rattle.tx_parse.specs.Calls.Reader.{Reader, Listed, give, and_read, when, behind, given, items, items_behind, a_word, target, tighter, joint, is_joint, has_operator, joined_tree, compared_tree, place_of_op, op_in, op_of, op_at, literal, bracketed, bracketed_by, may_compare, trails, index_of, args, name_by, condition_by, condition, conditioned, iterated, comprehended, element_by, square_by, brace, bracket_by, atom_by, atom, called, method_of, bound_by, bound, subscript_by, subscript, post, post_by, posts, postfix, unary_by, signed, operated, operations, leaning, compared_by, comparisons, comparing, negation_by, negating, joint_by, joints, joining, other_arm, test_by, choosing, a_term, a_sum, a_comparison, a_negation, a_conjunction, a_disjunction, a_test, at_place, read}
+use Rattle.tx_parse.proofs.Options.{both_of, held, one_some, given_of, and_both, and_left}
+use Rattle.tx_parse.proofs.Fronts.{word_front, mark_front, name_front, number_front, quoted_front, at_word, lone, lone_mark, lone_word}
+use Rattle.tx_parse.proofs.Lists.{Each, FoundItem, FoundList, SoundItem, items_sound, behind_sound, whole_list}
+use Rattle.tx_parse.proofs.Targets.{word_sound, target_sound}
 use Rattle.tx_parse.proofs.Expressions.Places.{number, fits_looser}
 use Rattle.tx_parse.proofs.Expressions.Trees.{GoodTree, fine_trees, fits_trees, depth_trees, items_of_list, amount-trees}
 

@@ -1,6 +1,6 @@
 -- Facts on what trees spell: how long it is, what it begins with, and lists of trees.
-use Rattle.std.proofs.Common.{◌≡◌, ℕ, zero, suc, ◌≤◌, ◌<◌, ◌+◌, max, Bool, true, false, ◌&&◌, List, [], ◌∷◌, length, Option, Some, None, refl, sym, ap, ◌∙◌, subst, arith}
-use Rattle.std.proofs.lemmas.Bool.{leb-true, le-leb}
+use Rattle.std.proofs.Common.{◌≡◌, ℕ, ◌≤◌, ◌<◌, Bool, true, false, ◌&&◌, List, [], ◌∷◌, length, None, refl, ap, ◌∙◌, arith}
+use Rattle.std.proofs.lemmas.Bool.{leb-true}
 use Rattle.tx_tree.specs.declared.operator.BinaryOp.{BinaryOp}
 use Rattle.tx_tree.specs.declared.operator.BinaryOp.TheVariants as binary_op
 use Rattle.tx_tree.specs.declared.operator.UnaryOp.{UnaryOp}
@@ -11,23 +11,17 @@ use Rattle.tx_tree.specs.declared.symbol.Keyword.{Keyword}
 use Rattle.tx_tree.specs.declared.symbol.Keyword.TheVariants as word
 use Rattle.tx_tree.specs.declared.symbol.Mark.{Mark}
 use Rattle.tx_tree.specs.declared.symbol.Mark.TheVariants as sign
-use Rattle.tx_tree.specs.declared.target.Word.{Word}
-use Rattle.tx_tree.specs.declared.target.Target.{Target}
-use Rattle.tx_tree.specs.Words.{binary_mark, unary_mark}
-use Rattle.tx_tree.specs.Kind as kind
+use Rattle.tx_tree.specs.Words.{unary_mark}
 use Rattle.tx_tree.specs.Spell.{truth_word}
-use Rattle.tx_tree.specs.Tree.{Tree, nil, truth, int, text, name, paren, tuple, bare_tuple, list, dict, comprehension, call, method, index, slice, unary, binary, compare, negation, conjunction, disjunction, conditional, Trees, none, more, PairTrees, no_pair, pair, Operands, no_operand, operand, MaybeTree, absent, present, trees, pair_trees, operands}
+use Rattle.tx_tree.specs.Tree.{Tree, nil, truth, int, text, name, paren, tuple, bare_tuple, list, dict, comprehension, call, method, index, slice, unary, binary, compare, negation, conjunction, disjunction, conditional, Trees, none, more, PairTrees, no_pair, pair, Operands, no_operand, operand, MaybeTree, absent, present, trees}
 use Rattle.tx_parse.specs.declared.symbol.Symbol.{Symbol}
 use Rattle.tx_parse.specs.declared.symbol.Symbol.TheVariants as symbol
-use Rattle.tx_parse.specs.declared.place.Place.{Place}
-use Rattle.tx_parse.specs.declared.place.Place.TheVariants as place
-use Rattle.tx_parse.specs.Lexemes.{Lexeme, lexeme, line_at}
-use Rattle.tx_tree.specs.Form.{level, level_of_op, fits, fits_each, fits_pairs, fits_operands, at_test, at_sum, at_not, at_unary, at_postfix, amount, amount_of_trees, amount_of_pairs, derived, sound, fine, fine_each, fine_pairs, fine_operands, is_listed}
-use Rattle.tx_tree.specs.Depth.{depth, depth_each, depth_pairs, depth_operands}
-use Rattle.tx_parse.specs.Spells.{Span, Lone, Seq, On, one, SpellsComma, SpellsMore, SpellsList, SpellsOp, Spells, SpellsItems, SpellsMoreItems, SpellsPairs, SpellsMorePairs, SpellsBehind, SpellsOperands, SpellsMaybe, SpellsCondition}
-use Rattle.tx_parse.specs.Calls.Front.{symbol_at, at}
+use Rattle.tx_parse.specs.Lexemes.{Lexeme, lexeme}
+use Rattle.tx_tree.specs.Form.{level, level_of_op, fits, fits_each, at_not, at_unary, at_postfix, amount, amount_of_trees, derived, sound, fine, fine_each}
+use Rattle.tx_tree.specs.Depth.{depth, depth_each}
+use Rattle.tx_parse.specs.Spells.{SpellsComma, SpellsMore, SpellsList, SpellsOp, Spells, SpellsItems, SpellsMoreItems, SpellsPairs, SpellsMorePairs, SpellsBehind, SpellsOperands, SpellsMaybe, SpellsCondition}
+use Rattle.tx_parse.specs.Calls.Front.{symbol_at}
 use Rattle.tx_parse.proofs.Options.{and_both, and_left, and_right}
-use Rattle.tx_parse.proofs.Fronts.{lone_shorter, one_shorter}
 use Rattle.tx_parse.proofs.Lists.{Each}
 use Rattle.tx_parse.proofs.Targets.{target_shorter}
 

@@ -1,6 +1,6 @@
 -- The reader of statements finds the tree of each spelling, with its lines.
-use Rattle.std.proofs.Common.{◌≡◌, ◌⊎◌, inl, inr, ℕ, zero, suc, ◌<◌, ◌≤◌, max, Bool, true, false, ◌&&◌, ◌||◌, nat_le, List, [], ◌∷◌, ◌++◌, length, Option, Some, None, refl, sym, ap, ◌∙◌, subst, arith, append_assoc, append-nil}
-use Rattle.std.proofs.lemmas.Bool.{leb-true, le-leb, true≢false}
+use Rattle.std.proofs.Common.{◌≡◌, ℕ, zero, suc, ◌<◌, ◌≤◌, Bool, true, false, ◌&&◌, ◌||◌, nat_le, List, [], ◌∷◌, ◌++◌, length, Some, refl, sym, ap, ◌∙◌, arith, append_assoc, append-nil}
+use Rattle.std.proofs.lemmas.Bool.{le-leb, true≢false}
 use Rattle.tx_tree.specs.declared.operator.BinaryOp.{BinaryOp}
 use Rattle.tx_tree.specs.declared.operator.BinaryOp.TheVariants as binary_op
 use Rattle.tx_tree.specs.declared.symbol.Keyword.{Keyword}
@@ -11,24 +11,22 @@ use Rattle.tx_tree.specs.declared.target.Target.{Target}
 use Rattle.tx_tree.specs.declared.target.Target.TheVariants as target_of
 use Rattle.tx_tree.specs.Words.{binary_mark, unary_mark, augment_mark}
 use Rattle.tx_tree.specs.Kind as kind
-use Rattle.tx_tree.specs.Kind.{Kind}
 use Rattle.tx_tree.specs.Tree.{Tree, bare_tuple, Trees, none, more, trees, MaybeTree, absent, present, Statement, pass, break, continue, return, assign, augment, express, branch, repeat, Body, line, indented, Statements, finish, next, statements, Tail, nothing, otherwise, elif, tail}
-use Rattle.tx_tree.specs.Form.{level, fits, fits_each, amount, amount_of_trees, amount_of_statements, has_items, level_of_op, is_listed, derived, derived_target, sound, fine, fine_each, fine_maybe, fits_maybe, is_name, target_is_named, is_simple, derived_body, derived_tail, derived_statement, statement_has_names, is_in_loop, sound_statement, fine_statement, fine_body, fine_statements, fine_tail}
-use Rattle.tx_tree.specs.Depth.{depth, depth_each, depth_maybe, depth_statement, depth_body, depth_statements, depth_tail}
+use Rattle.tx_tree.specs.Form.{fits, amount_of_trees, level_of_op, is_listed, derived_target, sound, fine, fine_maybe, is_name, target_is_named, is_simple, derived_body, derived_tail, derived_statement, sound_statement, fine_statement, fine_body, fine_statements, fine_tail}
+use Rattle.tx_tree.specs.Depth.{depth, depth_maybe, depth_statement, depth_body, depth_statements, depth_tail}
 use Rattle.tx_parse.specs.declared.symbol.Symbol.{Symbol}
 use Rattle.tx_parse.specs.declared.symbol.Symbol.TheVariants as symbol
 use Rattle.tx_parse.specs.declared.cursor.Assigns.{Assigns}
 use Rattle.tx_parse.specs.declared.cursor.Assigns.TheVariants as assigns
 use Rattle.tx_parse.specs.declared.statement.Starter.{Starter}
 use Rattle.tx_parse.specs.declared.statement.Starter.TheVariants as starter
-use Rattle.tx_parse.specs.declared.place.Place.{Place}
 use Rattle.tx_parse.specs.declared.place.Place.TheVariants as place
 use Rattle.tx_parse.specs.Lexemes.{Lexeme, lexeme, line_at}
-use Rattle.tx_parse.specs.Spells.{Span, Lone, Seq, On, one, SpellsMore, SpellsTarget, Spells, SpellsItems, SpellsMaybe, SpellsStatement, SpellsBody, SpellsStatements, SpellsTail}
-use Rattle.tx_parse.specs.Calls.Front.{symbol_of, symbol_at, rest_of, same_symbol, at, assigns_at, assigns_by, mark_assigns}
-use Rattle.tx_parse.specs.Calls.Reader.{Reader, Listed, give, and_read, when, behind, items_behind, a_name, target, read}
-use Rattle.tx_parse.specs.Calls.Statements.{listed_behind, value_by, value, word_starter, starter_of, ended, assigned, augmented, unmarked, returned_by, returned, simple_by, simple, simple_at, statement_or_end, more_statements, indented_lines, suite_by, Arms, armed, arm, other_suite, last_arm, arms_by, arms, branched, branching, repeated, repeating, suite, statement_by, statement}
-use Rattle.tx_parse.proofs.Options.{both_of, held, one_some, and_both, and_left, and_right}
+use Rattle.tx_parse.specs.Spells.{Span, Lone, Seq, SpellsMore, SpellsTarget, Spells, SpellsItems, SpellsMaybe, SpellsStatement, SpellsBody, SpellsStatements, SpellsTail}
+use Rattle.tx_parse.specs.Calls.Front.{symbol_at, same_symbol, at, assigns_at, mark_assigns}
+use Rattle.tx_parse.specs.Calls.Reader.{Reader, give, and_read, when, behind, target, read}
+use Rattle.tx_parse.specs.Calls.Statements.{listed_behind, value_by, value, starter_of, ended, assigned, augmented, unmarked, returned_by, returned, simple_by, simple, simple_at, statement_or_end, more_statements, indented_lines, suite_by, armed, arm, other_suite, arms_by, arms, branched, branching, repeated, repeating, suite, statement_by, statement}
+use Rattle.tx_parse.proofs.Options.{and_left, and_right}
 use Rattle.tx_tree.specs.declared.operator.UnaryOp.{UnaryOp}
 use Rattle.tx_tree.specs.declared.operator.UnaryOp.TheVariants as unary_op
 use Rattle.tx_tree.specs.declared.operator.CompareOp.{CompareOp}
@@ -36,12 +34,12 @@ use Rattle.tx_tree.specs.declared.operator.CompareOp.TheVariants as op
 use Rattle.tx_tree.specs.declared.target.Word.{Word}
 use Rattle.tx_tree.specs.Tree.{nil, truth, int, text, name, paren, tuple, list, dict, comprehension, call, method, index, slice, unary, binary, compare, negation, conjunction, disjunction, conditional, PairTrees, no_pair, pair, Operands, no_operand, operand}
 use Rattle.tx_parse.specs.Spells.{SpellsComma, SpellsWord, SpellsList, SpellsOp, SpellsMoreItems, SpellsPairs, SpellsMorePairs, SpellsBehind, SpellsOperands, SpellsCondition}
-use Rattle.tx_parse.proofs.Fronts.{at_only, lone_shorter, one_shorter}
-use Rattle.tx_parse.proofs.Lists.{Each, behind_complete}
-use Rattle.tx_parse.proofs.Targets.{GoodName, name_complete, ListEnd, target_complete, target_shorter}
+use Rattle.tx_parse.proofs.Fronts.{at_only}
+use Rattle.tx_parse.proofs.Lists.{behind_complete}
+use Rattle.tx_parse.proofs.Targets.{name_complete, ListEnd, target_complete, target_shorter}
 use Rattle.tx_parse.proofs.Expressions.Places.{continues}
-use Rattle.tx_parse.proofs.Expressions.Trees.{GoodTree, good_trees, list_of, trees-list_of, list_of_more, asked, opens, spelled_begins, no_longer, strictly}
-use Rattle.tx_parse.proofs.Expressions.Complete.{CompleteAt, Complete, read_complete, false_by, opens_apart, stops_apart, stops_lone, TreeEnd, test_items}
+use Rattle.tx_parse.proofs.Expressions.Trees.{GoodTree, good_trees, list_of, trees-list_of, list_of_more, asked, opens, spelled_begins, no_longer}
+use Rattle.tx_parse.proofs.Expressions.Complete.{read_complete, false_by, opens_apart, stops_lone, TreeEnd, test_items}
 
 -- ---- no mark that assigns, and no end of a line, stands in an expression or a target
 

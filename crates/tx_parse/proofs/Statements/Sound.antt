@@ -1,37 +1,31 @@
 -- What the reader of statements finds is spelled by what it has read.
-use Rattle.std.proofs.Common.{◌≡◌, ℕ, zero, suc, ◌≤◌, max, Bool, true, false, ◌&&◌, nat_le, List, [], ◌∷◌, ◌++◌, length, Option, Some, None, refl, sym, ap, ◌∙◌, subst, arith, append_assoc, append-nil}
+use Rattle.std.proofs.Common.{◌≡◌, ℕ, zero, suc, ◌≤◌, Bool, true, false, ◌&&◌, nat_le, List, [], ◌∷◌, ◌++◌, length, Option, Some, refl, sym, ap, ◌∙◌, subst, arith, append_assoc, append-nil}
 use Rattle.std.proofs.lemmas.Bool.{leb-true, le-leb}
-use Rattle.tx_tree.specs.declared.operator.BinaryOp.{BinaryOp}
-use Rattle.tx_tree.specs.declared.operator.BinaryOp.TheVariants as binary_op
 use Rattle.tx_tree.specs.declared.symbol.Keyword.{Keyword}
 use Rattle.tx_tree.specs.declared.symbol.Keyword.TheVariants as word
 use Rattle.tx_tree.specs.declared.symbol.Mark.{Mark}
 use Rattle.tx_tree.specs.declared.symbol.Mark.TheVariants as sign
-use Rattle.tx_tree.specs.declared.target.Target.{Target}
-use Rattle.tx_tree.specs.declared.target.Target.TheVariants as target_of
 use Rattle.tx_tree.specs.Words.{augment_mark}
 use Rattle.tx_tree.specs.Kind as kind
-use Rattle.tx_tree.specs.Kind.{Kind}
-use Rattle.tx_tree.specs.Tree.{Tree, bare_tuple, Trees, none, more, trees, MaybeTree, absent, present, Statement, pass, break, continue, return, assign, augment, express, branch, repeat, Body, line, indented, Statements, finish, next, statements, Tail, nothing, otherwise, elif, tail}
-use Rattle.tx_tree.specs.Form.{level, fits, fits_each, amount, amount_of_trees, amount_of_statements, has_items, is_listed, derived, derived_target, sound, fine, fine_each, fine_maybe, fits_maybe, is_name, target_is_named, is_simple, derived_body, derived_tail, derived_statement, statement_has_names, is_in_loop, sound_statement, fine_statement, fine_body, fine_statements, fine_tail}
-use Rattle.tx_tree.specs.Depth.{depth, depth_each, depth_maybe, depth_statement, depth_body, depth_statements, depth_tail}
+use Rattle.tx_tree.specs.Tree.{Tree, bare_tuple, trees, absent, present, Statement, pass, break, continue, return, assign, augment, express, branch, repeat, Body, line, indented, Statements, finish, next, statements, Tail, nothing, otherwise, tail}
+use Rattle.tx_tree.specs.Form.{level, fits, amount, amount_of_statements, has_items, is_listed, derived, fine, is_simple, derived_body, derived_tail, fine_statement, fine_body, fine_statements, fine_tail}
+use Rattle.tx_tree.specs.Depth.{depth, depth_statement, depth_body, depth_statements, depth_tail}
 use Rattle.tx_parse.specs.declared.symbol.Symbol.{Symbol}
 use Rattle.tx_parse.specs.declared.symbol.Symbol.TheVariants as symbol
 use Rattle.tx_parse.specs.declared.cursor.Assigns.{Assigns}
 use Rattle.tx_parse.specs.declared.cursor.Assigns.TheVariants as assigns
 use Rattle.tx_parse.specs.declared.statement.Starter.{Starter}
 use Rattle.tx_parse.specs.declared.statement.Starter.TheVariants as starter
-use Rattle.tx_parse.specs.declared.place.Place.{Place}
 use Rattle.tx_parse.specs.declared.place.Place.TheVariants as place
 use Rattle.tx_parse.specs.Lexemes.{Lexeme, lexeme, line_at}
-use Rattle.tx_parse.specs.Spells.{Span, Lone, Seq, On, one, SpellsMore, SpellsTarget, Spells, SpellsItems, SpellsMaybe, SpellsStatement, SpellsBody, SpellsStatements, SpellsTail}
-use Rattle.tx_parse.specs.Calls.Front.{symbol_of, symbol_at, rest_of, same_symbol, at, assigns_at, assigns_by, mark_assigns}
-use Rattle.tx_parse.specs.Calls.Reader.{Reader, Listed, give, and_read, when, behind, items_behind, a_name, target, read}
-use Rattle.tx_parse.specs.Calls.Statements.{listed_behind, value_by, value, word_starter, starter_of, ended, assigned, augmented, unmarked, returned_by, returned, simple_by, simple, simple_at, statement_or_end, more_statements, indented_lines, suite_by, Arms, armed, arm, other_suite, last_arm, arms_by, arms, branched, branching, repeated, repeating, suite, statement_by, statement}
-use Rattle.tx_parse.proofs.Options.{both_of, held, one_some, and_both, and_left, and_right}
+use Rattle.tx_parse.specs.Spells.{Span, Lone, Seq, one, SpellsMore, Spells, SpellsStatement, SpellsBody, SpellsStatements, SpellsTail}
+use Rattle.tx_parse.specs.Calls.Front.{symbol_at, rest_of, same_symbol, at, assigns_at}
+use Rattle.tx_parse.specs.Calls.Reader.{Reader, give, and_read, behind, items_behind, a_name, target, read}
+use Rattle.tx_parse.specs.Calls.Statements.{listed_behind, value_by, value, starter_of, ended, assigned, augmented, unmarked, returned_by, simple_by, simple, simple_at, statement_or_end, more_statements, indented_lines, suite_by, Arms, armed, arm, other_suite, arms_by, arms, branched, branching, repeated, repeating, suite, statement_by, statement}
+use Rattle.tx_parse.proofs.Options.{both_of, held, and_both, and_left, and_right}
 use Rattle.tx_parse.proofs.Fronts.{at_only, word_front, at_newline, lone, lone_mark, lone_word, at_indent, at_dedent}
-use Rattle.tx_parse.proofs.Lists.{Each, FoundMore, behind_sound, whole_list}
-use Rattle.tx_parse.proofs.Targets.{GoodName, name_sound, target_sound}
+use Rattle.tx_parse.proofs.Lists.{behind_sound, whole_list}
+use Rattle.tx_parse.proofs.Targets.{name_sound, target_sound}
 use Rattle.tx_parse.proofs.Expressions.Trees.{GoodTree, amount-trees}
 use Rattle.tx_parse.proofs.Expressions.Sound.{Found, read_sound, test_item, trees_found, there, closed_of}
 

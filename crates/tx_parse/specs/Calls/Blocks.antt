@@ -1,14 +1,14 @@
 -- The reader of blocks, as a function of the lexemes that are left. What stands in a block has at most n levels.
-use Rattle.std.specs.Prelude.{ℕ, zero, suc, Bool, true, false, not, ◌&&◌, List, [], ◌∷◌, ◌++◌, length, Option, Some, None}
+use Rattle.std.specs.Prelude.{ℕ, zero, suc, Bool, true, false, not, ◌&&◌, List, [], ◌∷◌, ◌++◌, length, Some, None}
 use Rattle.tx_tree.specs.declared.symbol.Keyword.TheVariants as word
 use Rattle.tx_tree.specs.declared.symbol.Mark.TheVariants as sign
 use Rattle.tx_tree.specs.declared.target.Word.{Word}
-use Rattle.tx_tree.specs.Tree.{Tree, Body, ArgTree, lambda, plain, ArgTrees, HeadTree, LinkTree, ChainTree, BlockTree, define, pipeline, alone}
+use Rattle.tx_tree.specs.Tree.{ArgTree, lambda, plain, ArgTrees, HeadTree, LinkTree, ChainTree, BlockTree, define, pipeline, alone}
 use Rattle.tx_tree.specs.Form.{are_params}
 use Rattle.tx_parse.specs.declared.symbol.Symbol.{Symbol}
 use Rattle.tx_parse.specs.declared.symbol.Symbol.TheVariants as symbol
 use Rattle.tx_parse.specs.declared.place.Place.TheVariants as place
-use Rattle.tx_parse.specs.Lexemes.{Lexeme, line_at}
+use Rattle.tx_parse.specs.Lexemes.{line_at}
 use Rattle.tx_parse.specs.Calls.Front.{rest_of, at}
 use Rattle.tx_parse.specs.Calls.Reader.{Reader, Listed, give, and_read, when, behind, items, a_word, a_name, read}
 use Rattle.tx_parse.specs.Calls.Statements.{suite, statement}

@@ -13,7 +13,7 @@ use Rattle.tx_tree.specs.declared.symbol.Mark.TheVariants as sign
 use Rattle.tx_tree.specs.declared.target.Word.{Word}
 use Rattle.tx_tree.specs.declared.target.Target.{Target}
 use Rattle.tx_tree.specs.declared.target.Target.TheVariants as target_of
-use Rattle.tx_tree.specs.Tree.{Tree, nil, truth, int, text, name, paren, tuple, bare_tuple, list, dict, comprehension, call, method, index, slice, unary, binary, compare, negation, conjunction, disjunction, conditional, none, trees, pair_trees, operands, MaybeTree, absent, present}
+use Rattle.tx_tree.specs.Tree.{Tree, nil, truth, int, text, name, paren, tuple, list, dict, comprehension, call, method, index, slice, unary, binary, compare, negation, conjunction, disjunction, conditional, none, trees, pair_trees, operands, MaybeTree, absent, present}
 use Rattle.tx_tree.specs.Form.{amount, is_listed, is_name, is_literal, is_identity, is_nil}
 use Rattle.tx_tree.specs.Depth.{depth}
 use Rattle.tx_parse.specs.declared.symbol.Symbol.{Symbol}

@@ -1,5 +1,5 @@
 -- The reader of statements and suites, as a function of the lexemes that are left.
-use Rattle.std.specs.Prelude.{ℕ, zero, suc, Bool, true, false, nat_le, List, [], ◌∷◌, ◌++◌, length, Option, Some, None}
+use Rattle.std.specs.Prelude.{ℕ, zero, suc, Bool, true, false, nat_le, List, [], ◌∷◌, ◌++◌, length, Some, None}
 use Rattle.tx_tree.specs.declared.operator.BinaryOp.{BinaryOp}
 use Rattle.tx_tree.specs.declared.symbol.Keyword.{Keyword}
 use Rattle.tx_tree.specs.declared.symbol.Keyword.TheVariants as word
@@ -15,7 +15,7 @@ use Rattle.tx_parse.specs.declared.cursor.Assigns.TheVariants as assigns
 use Rattle.tx_parse.specs.declared.statement.Starter.{Starter}
 use Rattle.tx_parse.specs.declared.statement.Starter.TheVariants as starter
 use Rattle.tx_parse.specs.declared.place.Place.TheVariants as place
-use Rattle.tx_parse.specs.Lexemes.{Lexeme, line_at}
+use Rattle.tx_parse.specs.Lexemes.{line_at}
 use Rattle.tx_parse.specs.Calls.Front.{symbol_at, rest_of, at, assigns_at}
 use Rattle.tx_parse.specs.Calls.Reader.{Reader, give, and_read, when, behind, items_behind, a_name, target, read}
 
