@@ -59,21 +59,28 @@ fn mark_size(first: char, behind: &str) -> usize
     if is_delimiter(first) { 1 } else { 0 }
 }
 
+/// What follows so many characters.
+fn behind_characters(count: usize, text: &str) -> &str
+    ensures { chars result.now ≡ drop count (chars text.entry.now) }
+{
+    let mut rest = text;
+    for _turn in 0..count {
+        let Some((_c, more)) = first_char(rest) else {
+            return rest;
+        };
+        rest = more;
+    }
+    rest
+}
+
 /// So many characters from the front, and what follows them.
 fn characters(alloc: Global, count: usize, text: &str) -> Result<(PyText, &str), NoMemory>
     ensures front { IfOk result (λ p. p.0 ≡ take count (chars text.entry.now)) }
     ensures rest { IfOk result (λ p. chars p.1.now ≡ drop count (chars text.entry.now)) }
 {
-    let mut front = PyText::new(alloc);
-    let mut rest = text;
-    for _turn in 0..count {
-        let Some((c, more)) = first_char(rest) else {
-            return Ok((front, rest));
-        };
-        front.push(c)?;
-        rest = more;
-    }
-    Ok((front, rest))
+    let rest = behind_characters(count, text);
+    let front = &text[..text.len() - rest.len()];
+    Ok((PyText::from_str(alloc, front)?, rest))
 }
 
 /// The mark in front of a text that begins with a character, how many characters it has, and what follows it.

@@ -16,7 +16,7 @@ use crate::stack::Stack;
 use crate::token::{Token, TokenError, TokenKind, TokenList};
 use crate::word::blanks;
 use std::alloc::Global;
-use tx_text::{NoMemory, Sequence};
+use tx_text::NoMemory;
 
 /// How far a text was read.
 #[derive(Drop)]
@@ -69,14 +69,15 @@ fn is_passed(content: &str) -> bool
 }
 
 impl Reader {
-    /// The reading of a text behind so many characters that are dropped.
-    pub(crate) fn new(alloc: Global, dropped: usize) -> Reader
+    /// The reading of a text behind so many characters that are dropped, into an empty list.
+    pub(crate) fn new(alloc: Global, tokens: TokenList, dropped: usize) -> Reader
+        requires { tokens ≡ [] }
         ensures state { state_of result ≡ start dropped }
         ensures answer { (es : List Event) → answer result es ≡ tokens_behind 0 1 es }
     {
         Reader {
             alloc,
-            tokens: Sequence::new(alloc),
+            tokens,
             end: 0,
             end_line: 1,
             line: 1,

@@ -1,5 +1,5 @@
 // The tokens of a script's text.
-ghost use Rattle.std.specs.Prelude.{◌≡◌, ◌≢◌, ◌≤◌, ◌<◌, ◌+◌, ◌^◌, Err, Ok, OnOk, IfOk, IfErr, length};
+ghost use Rattle.std.specs.Prelude.{◌≡◌, ◌≢◌, ◌≤◌, ◌<◌, ◌+◌, ◌^◌, [], Err, Ok, OnOk, IfOk, IfErr, length};
 ghost use Rattle.std.specs.Str.{chars};
 ghost use Rattle.tx_tokens.specs.Lines.{lines};
 ghost use Rattle.tx_tokens.specs.Layout.{events};
@@ -9,11 +9,14 @@ ghost use Rattle.tx_tokens.specs.Calls.Reading.{answer, state_of};
 use crate::cursor::{first_char, first_line};
 use crate::reader::Reader;
 use crate::token::{TokenError, TokenList};
-use std::alloc::Global;
-use tx_text::PyText;
+use std::alloc::{AllocError, Global};
+use tx_text::{PyText, Sequence};
 
 /// The most characters of a script.
 pub const MOST_CHARACTERS: usize = 262_144;
+
+// How many characters of a script there are, about, for each of its tokens.
+const CHARACTERS_A_TOKEN: usize = 4;
 
 // One at the front of a text is dropped.
 const BYTE_ORDER_MARK: char = '\u{FEFF}';
@@ -46,6 +49,15 @@ fn read_lines(reader: Reader, text: &str) -> Result<TokenList, TokenError>
     reader.finish()
 }
 
+/// An empty list with room for the tokens of a text of so many characters. Most scripts have one for each four, and where
+/// the room is doubled twice it is enough for any text.
+fn roomy_list(alloc: Global, characters: usize) -> Result<TokenList, AllocError>
+    ensures { IfOk result (λ ts. ts ≡ []) }
+{
+    let items = Vec::with_capacity(alloc, characters / CHARACTERS_A_TOKEN + 1)?;
+    Ok(Sequence::from_vec(items))
+}
+
 /// The tokens of a script's text (Python Language Reference, "Lexical analysis", within the language), or its first fault
 /// by place. `"x = 1\n"` gives a name, a mark, an integer and a Newline.
 pub fn tokens(alloc: Global, t: &PyText) -> Result<TokenList, TokenError>
@@ -54,5 +66,6 @@ pub fn tokens(alloc: Global, t: &PyText) -> Result<TokenList, TokenError>
     ensures err { IfErr result (λ e. e ≢ TokenError.NoMemory → tokens_of t.now ≡ Err e) }
 {
     let (dropped, script) = without_mark(t.as_str());
-    read_lines(Reader::new(alloc, dropped), script)
+    let list = roomy_list(alloc, t.len())?;
+    read_lines(Reader::new(alloc, list, dropped), script)
 }

@@ -1,11 +1,16 @@
-use Rattle.std.proofs.Common.{rules}
-use Rattle.std.specs.Str.{chars}
-use Rattle.tx_tokens.proofs.Slices.{dropped_more, taken_more}
+use Rattle.std.proofs.Common.{◌∙◌, ◌-◌, length}
+use Rattle.std.proofs.lemmas.Slice.{between_from_start}
+use Rattle.tx_tokens.proofs.Slices.{boundary, chars-front, within}
 use Rattle.tx_tokens.proofs.mark.characters.Goals as goal
 
-pub loop-turn-preserved : goal.loop-turn-preserved
-loop-turn-preserved c = (
-  search rules,
-  taken_more (chars c.args.text.now) (chars c.loop-turn.rest.now) (chars c.in-Some.more.now) c.loop-turn.front c.push.new.self c.in-Some.c c.loop-turn._turn c.in-Some.ensures.value c.loop-turn.invariant.2 c.loop-turn.invariant.1 c.in_ok-push.ensures.ok,
-  dropped_more (chars c.args.text.now) (chars c.loop-turn.rest.now) (chars c.in-Some.more.now) c.in-Some.c c.loop-turn._turn c.in-Some.ensures.value c.loop-turn.invariant.2,
-)
+pub overflow_sub-text : goal.overflow_sub-text
+overflow_sub-text c = within c.args.text.now c.behind_characters-rest.result.now c.args.count c.utf8.text c.behind_characters-rest.utf8 c.behind_characters-rest.ensures
+
+pub range-front-requires-clause-end_boundary : goal.range-front-requires-clause-end_boundary
+range-front-requires-clause-end_boundary c = boundary c.args.text.now c.behind_characters-rest.result.now c.args.count c.utf8.text c.behind_characters-rest.utf8 c.behind_characters-rest.ensures
+
+pub returns-clause-front : goal.returns-clause-front
+returns-clause-front c =
+    c.in_ok-from_str.ensures
+    ∙ chars-front c.args.text.now c.behind_characters-rest.result.now c.range-front.result.now c.args.count c.utf8.text c.behind_characters-rest.utf8 c.range-front.utf8 c.behind_characters-rest.ensures
+    (c.range-front.ensures.value ∙ between_from_start c.args.text.now (length c.args.text.now - length c.behind_characters-rest.result.now))

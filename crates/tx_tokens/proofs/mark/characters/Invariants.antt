@@ -1,8 +1,0 @@
-use Rattle.std.proofs.Common.{◌≡◌, take, drop}
-use denote.Shadow.{shadow}
-use denote.Text.{Utf8}
-use Rattle.std.specs.Str.{chars}
-use Rattle.tx_tokens.proofs.mark.characters.Given as goal
-
-abbrev pub invariant-loop-turn : goal.invariant-loop-turn
-invariant-loop-turn l = shadow (Utf8 l.rest) × (l.front ≡ take l._turn (chars l.text)) × (chars l.rest ≡ drop l._turn (chars l.text))
