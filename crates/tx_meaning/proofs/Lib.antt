@@ -1,0 +1,9 @@
+pub mod Tests
+pub mod TwoEvaluations
+pub mod Numbering
+pub mod Reading
+pub mod Rewriting
+pub mod Binding
+pub mod Holds
+pub mod ValidParts
+pub mod Validity
