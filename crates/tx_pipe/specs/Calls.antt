@@ -1,0 +1,3 @@
+-- For the calls inside the crate.
+-- The first of some names that is absent.
+pub mod Asking
