@@ -34,7 +34,8 @@ fn token_list(alloc: Global, text: &str) -> Option<TokenList> {
     }
 }
 
-fn block_of(alloc: Global, text: &str) -> Option<Block> {
+/// The block of a text; a lambda is the argument of an operator.
+pub(crate) fn block_of(alloc: Global, text: &str) -> Option<Block> {
     let list = token_list(alloc, text)?;
     let count = list.len();
     if count > 0 {
@@ -73,7 +74,14 @@ pub(crate) fn bound(
     }
 }
 
-fn add_def(alloc: Global, defs: &mut Defs, name: &str, role: Role, text: &str) -> Option<()> {
+/// Adds a def of this text to the earlier ones.
+pub(crate) fn add_def(
+    alloc: Global,
+    defs: &mut Defs,
+    name: &str,
+    role: Role,
+    text: &str,
+) -> Option<()> {
     let function = bound(alloc, text, role, defs).ok()?;
     let function = Rc::new(alloc, function).ok()?;
     let name = PyText::from_str(alloc, name).ok()?;
