@@ -1,0 +1,2 @@
+-- The words of the jobs.
+pub mod Word
