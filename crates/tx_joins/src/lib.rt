@@ -12,6 +12,3 @@ pub use first_places::FirstPlaces;
 pub use firsts::unique;
 pub use joined::Joined;
 pub use joining::join;
-
-#[cfg(test)]
-mod tests;

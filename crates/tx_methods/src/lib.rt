@@ -25,6 +25,3 @@ pub use laws::{
 };
 pub use methods::{has_method, method};
 pub use walks::{items_of, iterate};
-
-#[cfg(test)]
-mod tests;

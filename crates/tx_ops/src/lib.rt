@@ -18,6 +18,3 @@ pub use laws::{
     quotient_and_remainder_make_up_the_dividend, results_are_valid,
 };
 pub use part::slice;
-
-#[cfg(test)]
-mod tests;

@@ -14,6 +14,3 @@ pub use cell::{CellError, print_cell, printed_cells_read_back, read_cell};
 pub use csv_source::{CsvSource, source};
 pub use output::{Output, write_header, write_row};
 pub use raw::RawRows;
-
-#[cfg(test)]
-mod tests;

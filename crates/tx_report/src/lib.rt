@@ -4,6 +4,3 @@
 mod report;
 
 pub use report::{Entries, Entry};
-
-#[cfg(test)]
-mod tests;

@@ -17,6 +17,3 @@ mod word;
 pub use laws::{events_are_in_order, layout_is_balanced, spans_rise};
 pub use script::{MOST_CHARACTERS, tokens};
 pub use token::{Token, TokenError, TokenKind, TokenList};
-
-#[cfg(test)]
-mod tests;

@@ -13,8 +13,6 @@ mod stmt;
 mod symbol;
 mod takes;
 mod target;
-#[cfg(test)]
-mod tests;
 
 pub use block::{Arg, ArgList, Args, Block, Chain, Head, Link, Links};
 pub use count::spell_len;

@@ -1,0 +1,3 @@
+// Operators, and functions, methods and walks, on values.
+mod functions;
+mod operations;

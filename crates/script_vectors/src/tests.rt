@@ -1,0 +1,3 @@
+// Trees, and the tokens of texts.
+mod tokens;
+mod trees;

@@ -1,0 +1,4 @@
+// Sources and outputs, joins, and reports.
+mod joins;
+mod records;
+mod reports;
