@@ -1,21 +1,24 @@
 // The interpreter: expressions, statements and bodies.
-ghost use Rattle.std.specs.Prelude.{◌≡◌, [], true, nat_eq, map, option_map, IfOk, Ok, Err};
+ghost use Rattle.std.specs.Prelude.{◌≡◌, [], true, nat_eq, map, IfOk, Ok, Err};
+ghost use Rattle.std.specs.Option.{option_copied};
 ghost use Rattle.tx_base.specs.declared.class.Class.{Class};
 ghost use Rattle.tx_names.specs.View.{exprs, pairs, comparisons, statements, arms, target_of, expr_of, statement_of, maybe_of, iterable_of, operand_of, pair_of, arm_of, body_of, routine_of};
 ghost use Rattle.tx_meaning.specs.Maps.{row_of};
 ghost use Rattle.tx_meaning.specs.Meaning.{means, means_each, means_pairs, means_maybe, means_chain, means_and, means_or, holds, means_items, runs, runs_all, turn, turns, yields, applied};
 ghost use Rattle.tx_values.specs.declared.value.Value.TheVariants as v;
 ghost use Rattle.tx_interp.specs.Frames.{value_in, map_of, course, adds, builtin_of_each};
-ghost use Rattle.tx_interp.specs.Kinds.{is_branch, is_call, is_choice, is_comprehension, is_display, is_operation};
+ghost use Rattle.tx_interp.specs.Kinds.{is_assign, is_augment, is_binary, is_branch, is_call, is_choice, is_compare, is_comprehension, is_express, is_index, is_method, is_repeat, is_return, is_slice};
+ghost use Rattle.tx_names.specs.Function.{dict, list, negation, tuple, unary};
 ghost use Rattle.tx_interp.specs.Weighed.{IsGrowing};
 
 use crate::entries::dictionary;
 use crate::frame::{
-    End, Frame, cell, empty_frame, lend_each, lent_frame, local, put, take, take_copy,
+    End, Frame, cell, cell_copy, empty_frame, lend_each, lent_frame, local, local_copy, put, take,
+    take_copy,
 };
 use crate::growing::{Growing, longer, nothing};
-use crate::held::{Held, owned, seen, seen_maybe};
-use crate::leaf::{copy_text, finished, has_views, is_list};
+use crate::held::{Held, lodged, owned, seen};
+use crate::leaf::{finished, has_views, is_list, literal, room_for};
 use std::alloc::Global;
 use tx_base::Class;
 use tx_methods::{builtin, builtin_of_one, has_method, items_of, iterate, method};
@@ -25,7 +28,7 @@ use tx_names::{
 };
 use tx_ops::{binary, compare, index, slice, unary};
 use tx_text::Bytes;
-use tx_tree::Builtin;
+use tx_tree::{Builtin, UnaryOp};
 use tx_values::{Items, OpError, Pairs, Value, truthy};
 
 // A def that is called: the value of its body on the arguments alone.
@@ -41,22 +44,19 @@ fn apply(alloc: Global, f: &Routine, args: &[Value]) -> Result<Value, OpError>
 
 /// What a body gives in a frame.
 #[cycle(eval)]
-pub(crate) fn run_body(
+pub(crate) fn run_body<'a>(
     alloc: Global,
     body: &BoundBody,
     names: &[Bytes],
-    cells: &[Value],
-    frame: Frame<'_>,
+    cells: &'a [Value],
+    frame: Frame<'a>,
 ) -> Result<Value, OpError>
     ensures value { IfOk result (λ v. yields nat_eq (body_of body.now) (row_of names.now cells.now) (map_of frame.entry.items) ≡ Ok v) }
     ensures raise { (c : Class) → result ≡ Err (OpError.Raise c) → yields nat_eq (body_of body.now) (row_of names.now cells.now) (map_of frame.entry.items) ≡ Err c }
 {
     let mut frame = frame;
     match body {
-        BoundBody::Gives(e) => {
-            let held = eval(alloc, e, names, &*cells, &frame)?;
-            Ok(owned(alloc, held)?)
-        }
+        BoundBody::Gives(e) => make(alloc, e, names, &*cells, &frame),
         BoundBody::Does(body) => match run_all(alloc, body.as_slice(), names, cells, &mut frame)? {
             End::GivesBack(value) => Ok(value),
             _ => Ok(Value::Nil),
@@ -64,7 +64,37 @@ pub(crate) fn run_body(
     }
 }
 
-/// The value of an expression. Its frame on the stack is small, since it calls itself as deep as a tree goes.
+// The value of an expression, to be looked at: one that stands in the row or in the frame is lent, and one that is made stands in a
+// room for it. This calls itself as deep as a tree goes; what a node needs stands in a function of its own, so the stack is small.
+#[inline(never)]
+#[cycle(eval)]
+fn look<'b>(
+    alloc: Global,
+    e: &BoundExpr,
+    names: &[Bytes],
+    cells: &'b [Value],
+    frame: &'b Frame<'_>,
+    room: &'b mut Value,
+) -> Result<&'b Value, OpError>
+    ensures value { IfOk result (λ v. means nat_eq (expr_of e.now) (row_of names.now cells.now) (map_of frame.now.items) ≡ Ok v.now) }
+    ensures raise { (c : Class) → result ≡ Err (OpError.Raise c) → means nat_eq (expr_of e.now) (row_of names.now cells.now) (map_of frame.now.items) ≡ Err c }
+{
+    match e {
+        BoundExpr::Local(slot) => local(frame, *slot),
+        BoundExpr::Cell(column) => cell(names, cells, column),
+        BoundExpr::Paren(a) => look(alloc, a.get(), names, cells, frame, room),
+        BoundExpr::And(..) | BoundExpr::Or(..) | BoundExpr::Conditional { .. } => {
+            let held = decide(alloc, e, names, cells, frame)?;
+            Ok(lodged(held, room))
+        }
+        _ => {
+            *room = make(alloc, e, names, cells, frame)?;
+            Ok(&*room)
+        }
+    }
+}
+
+// The value of an expression, lent or owned.
 #[inline(never)]
 #[cycle(eval)]
 fn eval<'b>(
@@ -78,156 +108,336 @@ fn eval<'b>(
     ensures raise { (c : Class) → result ≡ Err (OpError.Raise c) → means nat_eq (expr_of e.now) (row_of names.now cells.now) (map_of frame.now.items) ≡ Err c }
 {
     match e {
-        BoundExpr::Local(slot) => local(frame, *slot),
-        BoundExpr::Cell(column) => cell(names, cells, column),
+        BoundExpr::Local(slot) => Ok(Held::Lent(local(frame, *slot)?)),
+        BoundExpr::Cell(column) => Ok(Held::Lent(cell(names, cells, column)?)),
         BoundExpr::Paren(a) => eval(alloc, a.get(), names, cells, frame),
         BoundExpr::And(..) | BoundExpr::Or(..) | BoundExpr::Conditional { .. } => decide(
             alloc, e, names, cells, frame,
         ),
-        BoundExpr::Call(..) | BoundExpr::Builtin(..) | BoundExpr::Method(..) => invoke(
+        _ => Ok(Held::Own(make(alloc, e, names, cells, frame)?)),
+    }
+}
+
+// The value of an expression, made anew where it stands elsewhere.
+#[inline(never)]
+#[cycle(eval)]
+fn make<'b>(
+    alloc: Global,
+    e: &BoundExpr,
+    names: &[Bytes],
+    cells: &'b [Value],
+    frame: &'b Frame<'_>,
+) -> Result<Value, OpError>
+    ensures value { IfOk result (λ v. means nat_eq (expr_of e.now) (row_of names.now cells.now) (map_of frame.now.items) ≡ Ok v) }
+    ensures raise { (c : Class) → result ≡ Err (OpError.Raise c) → means nat_eq (expr_of e.now) (row_of names.now cells.now) (map_of frame.now.items) ≡ Err c }
+{
+    match e {
+        BoundExpr::Nil => Ok(Value::Nil),
+        BoundExpr::Truth(b) => Ok(Value::Truth(*b)),
+        BoundExpr::Int(n) => Ok(Value::Int(*n)),
+        BoundExpr::Text(text) => literal(alloc, text),
+        BoundExpr::Local(slot) => local_copy(alloc, frame, *slot),
+        BoundExpr::Cell(column) => cell_copy(alloc, names, cells, column),
+        BoundExpr::Paren(a) => make(alloc, a.get(), names, cells, frame),
+        BoundExpr::And(..) | BoundExpr::Or(..) | BoundExpr::Conditional { .. } => decided(
             alloc, e, names, cells, frame,
         ),
-        BoundExpr::Index(..)
-        | BoundExpr::Slice { .. }
-        | BoundExpr::Unary(..)
-        | BoundExpr::Binary(..)
-        | BoundExpr::Compare(..)
-        | BoundExpr::Not(..) => operate(alloc, e, names, cells, frame),
-        BoundExpr::Nil
-        | BoundExpr::Truth(_)
-        | BoundExpr::Int(_)
-        | BoundExpr::Text(_)
-        | BoundExpr::Tuple(_)
-        | BoundExpr::List(_)
-        | BoundExpr::Dict(_)
-        | BoundExpr::Comprehension { .. } => display(alloc, e, names, cells, frame),
+        BoundExpr::Tuple(es) => tuple(alloc, es.as_slice(), names, cells, frame),
+        BoundExpr::List(es) => list(alloc, es.as_slice(), names, cells, frame),
+        BoundExpr::Dict(ps) => dict(alloc, ps.as_slice(), names, cells, frame),
+        BoundExpr::Comprehension { .. } => comprehend(alloc, e, names, cells, frame),
+        BoundExpr::Call(..) => call_def(alloc, e, names, cells, frame),
+        BoundExpr::Builtin(b, es) => call_builtin(alloc, es.as_slice(), *b, names, cells, frame),
+        BoundExpr::Method(..) => call_method(alloc, e, names, cells, frame),
+        BoundExpr::Index(..) => item_of(alloc, e, names, cells, frame),
+        BoundExpr::Slice { .. } => part_of(alloc, e, names, cells, frame),
+        BoundExpr::Unary(op, a) => signed(alloc, a.get(), *op, names, cells, frame),
+        BoundExpr::Binary(..) => combined(alloc, e, names, cells, frame),
+        BoundExpr::Compare(..) => compared(alloc, e, names, cells, frame),
+        BoundExpr::Not(a) => negated(alloc, a.get(), names, cells, frame),
     }
 }
 
-// Literals and displays.
+// Displays of tuples and of lists.
 #[inline(never)]
 #[cycle(eval)]
-fn display<'b>(
+fn tuple<'b>(
     alloc: Global,
-    e: &BoundExpr,
+    es: &[BoundExpr],
     names: &[Bytes],
     cells: &'b [Value],
     frame: &'b Frame<'_>,
-) -> Result<Held<'b>, OpError>
-    requires kind { is_display (expr_of e.now) ≡ true }
-    ensures value { IfOk result (λ v. means nat_eq (expr_of e.now) (row_of names.now cells.now) (map_of frame.now.items) ≡ Ok (value_in v)) }
-    ensures raise { (c : Class) → result ≡ Err (OpError.Raise c) → means nat_eq (expr_of e.now) (row_of names.now cells.now) (map_of frame.now.items) ≡ Err c }
+) -> Result<Value, OpError>
+    ensures value { IfOk result (λ v. means nat_eq (tuple (exprs (map expr_of es.now))) (row_of names.now cells.now) (map_of frame.now.items) ≡ Ok v) }
+    ensures raise { (c : Class) → result ≡ Err (OpError.Raise c) → means nat_eq (tuple (exprs (map expr_of es.now))) (row_of names.now cells.now) (map_of frame.now.items) ≡ Err c }
 {
-    match e {
-        BoundExpr::Nil => Ok(Held::Own(Value::Nil)),
-        BoundExpr::Truth(b) => Ok(Held::Own(Value::Truth(*b))),
-        BoundExpr::Int(n) => Ok(Held::Own(Value::Int(*n))),
-        BoundExpr::Text(text) => Ok(Held::Own(Value::Text(copy_text(text)?))),
-        BoundExpr::Tuple(es) => {
-            let items = eval_each(alloc, es.as_slice(), names, cells, frame)?;
-            Ok(Held::Own(finished(Value::Tuple(items))?))
-        }
-        BoundExpr::List(es) => {
-            let items = eval_each(alloc, es.as_slice(), names, cells, frame)?;
-            Ok(Held::Own(finished(Value::List(items))?))
-        }
-        BoundExpr::Dict(ps) => {
-            let all = eval_pairs(alloc, ps.as_slice(), names, cells, frame)?;
-            let entries = dictionary(alloc, all.as_slice())?;
-            Ok(Held::Own(finished(Value::Dict(entries))?))
-        }
-        BoundExpr::Comprehension { .. } => Ok(Held::Own(comprehend(
-            alloc, e, names, cells, frame,
-        )?)),
-        _ => unreachable!(),
-    }
+    let items = make_each(alloc, es, names, cells, frame)?;
+    finished(Value::Tuple(items))
 }
 
-// Calls of defs, of built-in functions and of methods.
 #[inline(never)]
 #[cycle(eval)]
-fn invoke<'b>(
+fn list<'b>(
+    alloc: Global,
+    es: &[BoundExpr],
+    names: &[Bytes],
+    cells: &'b [Value],
+    frame: &'b Frame<'_>,
+) -> Result<Value, OpError>
+    ensures value { IfOk result (λ v. means nat_eq (list (exprs (map expr_of es.now))) (row_of names.now cells.now) (map_of frame.now.items) ≡ Ok v) }
+    ensures raise { (c : Class) → result ≡ Err (OpError.Raise c) → means nat_eq (list (exprs (map expr_of es.now))) (row_of names.now cells.now) (map_of frame.now.items) ≡ Err c }
+{
+    let items = make_each(alloc, es, names, cells, frame)?;
+    finished(Value::List(items))
+}
+
+// Displays of dictionaries: all pairs are made before the first is entered.
+#[inline(never)]
+#[cycle(eval)]
+fn dict<'b>(
+    alloc: Global,
+    ps: &[BoundPair],
+    names: &[Bytes],
+    cells: &'b [Value],
+    frame: &'b Frame<'_>,
+) -> Result<Value, OpError>
+    ensures value { IfOk result (λ v. means nat_eq (dict (pairs (map pair_of ps.now))) (row_of names.now cells.now) (map_of frame.now.items) ≡ Ok v) }
+    ensures raise { (c : Class) → result ≡ Err (OpError.Raise c) → means nat_eq (dict (pairs (map pair_of ps.now))) (row_of names.now cells.now) (map_of frame.now.items) ≡ Err c }
+{
+    let all = make_pairs(alloc, ps, names, cells, frame)?;
+    let entries = dictionary(alloc, all.as_slice())?;
+    finished(Value::Dict(entries))
+}
+
+// A call of a def.
+#[inline(never)]
+#[cycle(eval)]
+fn call_def<'b>(
     alloc: Global,
     e: &BoundExpr,
     names: &[Bytes],
     cells: &'b [Value],
     frame: &'b Frame<'_>,
-) -> Result<Held<'b>, OpError>
+) -> Result<Value, OpError>
     requires kind { is_call (expr_of e.now) ≡ true }
-    ensures value { IfOk result (λ v. means nat_eq (expr_of e.now) (row_of names.now cells.now) (map_of frame.now.items) ≡ Ok (value_in v)) }
+    ensures value { IfOk result (λ v. means nat_eq (expr_of e.now) (row_of names.now cells.now) (map_of frame.now.items) ≡ Ok v) }
     ensures raise { (c : Class) → result ≡ Err (OpError.Raise c) → means nat_eq (expr_of e.now) (row_of names.now cells.now) (map_of frame.now.items) ≡ Err c }
 {
-    match e {
-        BoundExpr::Call(f, es) => {
-            let args = eval_each(alloc, es.as_slice(), names, cells, frame)?;
-            Ok(Held::Own(apply(alloc, f, args.as_slice())?))
+    let BoundExpr::Call(f, es) = e else {
+        unreachable!();
+    };
+    let args = make_each(alloc, es.as_slice(), names, cells, frame)?;
+    apply(alloc, f, args.as_slice())
+}
+
+// A call of a built-in function.
+#[inline(never)]
+#[cycle(eval)]
+fn call_builtin<'b>(
+    alloc: Global,
+    es: &[BoundExpr],
+    b: Builtin,
+    names: &[Bytes],
+    cells: &'b [Value],
+    frame: &'b Frame<'_>,
+) -> Result<Value, OpError>
+    ensures value { IfOk result (λ v. builtin_of_each b (exprs (map expr_of es.now)) (row_of names.now cells.now) (map_of frame.now.items) ≡ Ok v) }
+    ensures raise { (c : Class) → result ≡ Err (OpError.Raise c) → builtin_of_each b (exprs (map expr_of es.now)) (row_of names.now cells.now) (map_of frame.now.items) ≡ Err c }
+{
+    match es {
+        [e] => {
+            let mut room = Value::Nil;
+            let x = look(alloc, e, names, &*cells, &*frame, &mut room)?;
+            builtin_of_one(alloc, b, x)
         }
-        BoundExpr::Builtin(b, es) => Ok(Held::Own(eval_builtin(
-            alloc,
-            es.as_slice(),
-            *b,
-            names,
-            cells,
-            frame,
-        )?)),
-        BoundExpr::Method(a, m, es) => {
-            let on = eval(alloc, a.get(), names, cells, frame)?;
-            if has_method(*m, seen(&on)) {
-                let args = eval_each(alloc, es.as_slice(), names, cells, frame)?;
-                Ok(Held::Own(method(alloc, *m, seen(&on), &args)?))
-            } else {
-                Err(OpError::Raise(Class::AttributeError))
-            }
+        _ => {
+            let args = make_each(alloc, es, names, cells, frame)?;
+            builtin(alloc, b, &args)
         }
-        _ => unreachable!(),
     }
 }
 
-// Operators.
+// A call of a method.
 #[inline(never)]
 #[cycle(eval)]
-fn operate<'b>(
+fn call_method<'b>(
     alloc: Global,
     e: &BoundExpr,
     names: &[Bytes],
     cells: &'b [Value],
     frame: &'b Frame<'_>,
-) -> Result<Held<'b>, OpError>
-    requires kind { is_operation (expr_of e.now) ≡ true }
-    ensures value { IfOk result (λ v. means nat_eq (expr_of e.now) (row_of names.now cells.now) (map_of frame.now.items) ≡ Ok (value_in v)) }
+) -> Result<Value, OpError>
+    requires kind { is_method (expr_of e.now) ≡ true }
+    ensures value { IfOk result (λ v. means nat_eq (expr_of e.now) (row_of names.now cells.now) (map_of frame.now.items) ≡ Ok v) }
     ensures raise { (c : Class) → result ≡ Err (OpError.Raise c) → means nat_eq (expr_of e.now) (row_of names.now cells.now) (map_of frame.now.items) ≡ Err c }
 {
-    match e {
-        BoundExpr::Index(a, i) => {
-            let x = eval(alloc, a.get(), names, cells, frame)?;
-            let y = eval(alloc, i.get(), names, cells, frame)?;
-            Ok(Held::Own(index(alloc, seen(&x), seen(&y))?))
-        }
-        BoundExpr::Slice { base, from, to } => {
-            let x = eval(alloc, base.get(), names, cells, frame)?;
-            let y = eval_maybe(alloc, from, names, cells, frame)?;
-            let z = eval_maybe(alloc, to, names, cells, frame)?;
-            Ok(Held::Own(slice(alloc, seen(&x), seen_maybe(&y), seen_maybe(&z))?))
-        }
-        BoundExpr::Unary(op, a) => {
-            let x = eval(alloc, a.get(), names, cells, frame)?;
-            Ok(Held::Own(unary(*op, seen(&x))?))
-        }
-        BoundExpr::Binary(a, op, b) => {
-            let x = eval(alloc, a.get(), names, cells, frame)?;
-            let y = eval(alloc, b.get(), names, cells, frame)?;
-            Ok(Held::Own(binary(alloc, *op, seen(&x), seen(&y))?))
-        }
-        BoundExpr::Compare(a, os) => {
-            let x = eval(alloc, a.get(), names, cells, frame)?;
-            Ok(Held::Own(Value::Truth(chain(alloc, os.as_slice(), x, names, cells, frame)?)))
-        }
-        BoundExpr::Not(a) => {
-            let x = eval(alloc, a.get(), names, cells, frame)?;
-            Ok(Held::Own(Value::Truth(!truthy(seen(&x)))))
-        }
-        _ => unreachable!(),
+    let BoundExpr::Method(a, m, es) = e else {
+        unreachable!();
+    };
+    let mut room = Value::Nil;
+    let on = look(alloc, a.get(), names, &*cells, &*frame, &mut room)?;
+    if has_method(*m, on) {
+        let args = make_each(alloc, es.as_slice(), names, &*cells, &*frame)?;
+        method(alloc, *m, on, &args)
+    } else {
+        Err(OpError::Raise(Class::AttributeError))
     }
+}
+
+// An item.
+#[inline(never)]
+#[cycle(eval)]
+fn item_of<'b>(
+    alloc: Global,
+    e: &BoundExpr,
+    names: &[Bytes],
+    cells: &'b [Value],
+    frame: &'b Frame<'_>,
+) -> Result<Value, OpError>
+    requires kind { is_index (expr_of e.now) ≡ true }
+    ensures value { IfOk result (λ v. means nat_eq (expr_of e.now) (row_of names.now cells.now) (map_of frame.now.items) ≡ Ok v) }
+    ensures raise { (c : Class) → result ≡ Err (OpError.Raise c) → means nat_eq (expr_of e.now) (row_of names.now cells.now) (map_of frame.now.items) ≡ Err c }
+{
+    let BoundExpr::Index(a, i) = e else {
+        unreachable!();
+    };
+    let mut room = Value::Nil;
+    let x = look(alloc, a.get(), names, &*cells, &*frame, &mut room)?;
+    let mut more = Value::Nil;
+    let y = look(alloc, i.get(), names, &*cells, &*frame, &mut more)?;
+    index(alloc, x, y)
+}
+
+// A slice.
+#[inline(never)]
+#[cycle(eval)]
+fn part_of<'b>(
+    alloc: Global,
+    e: &BoundExpr,
+    names: &[Bytes],
+    cells: &'b [Value],
+    frame: &'b Frame<'_>,
+) -> Result<Value, OpError>
+    requires kind { is_slice (expr_of e.now) ≡ true }
+    ensures value { IfOk result (λ v. means nat_eq (expr_of e.now) (row_of names.now cells.now) (map_of frame.now.items) ≡ Ok v) }
+    ensures raise { (c : Class) → result ≡ Err (OpError.Raise c) → means nat_eq (expr_of e.now) (row_of names.now cells.now) (map_of frame.now.items) ≡ Err c }
+{
+    let BoundExpr::Slice { base, from, to } = e else {
+        unreachable!();
+    };
+    let mut room = Value::Nil;
+    let x = look(alloc, base.get(), names, &*cells, &*frame, &mut room)?;
+    let mut front = Value::Nil;
+    let y = look_maybe(alloc, from, names, &*cells, &*frame, &mut front)?;
+    let mut back = Value::Nil;
+    let z = look_maybe(alloc, to, names, &*cells, &*frame, &mut back)?;
+    slice(alloc, x, y, z)
+}
+
+#[inline(never)]
+#[cycle(eval)]
+fn signed<'b>(
+    alloc: Global,
+    a: &BoundExpr,
+    op: UnaryOp,
+    names: &[Bytes],
+    cells: &'b [Value],
+    frame: &'b Frame<'_>,
+) -> Result<Value, OpError>
+    ensures value { IfOk result (λ v. means nat_eq (unary op (expr_of a.now)) (row_of names.now cells.now) (map_of frame.now.items) ≡ Ok v) }
+    ensures raise { (c : Class) → result ≡ Err (OpError.Raise c) → means nat_eq (unary op (expr_of a.now)) (row_of names.now cells.now) (map_of frame.now.items) ≡ Err c }
+{
+    let mut room = Value::Nil;
+    let x = look(alloc, a, names, &*cells, &*frame, &mut room)?;
+    unary(op, x)
+}
+
+// A binary operator.
+#[inline(never)]
+#[cycle(eval)]
+fn combined<'b>(
+    alloc: Global,
+    e: &BoundExpr,
+    names: &[Bytes],
+    cells: &'b [Value],
+    frame: &'b Frame<'_>,
+) -> Result<Value, OpError>
+    requires kind { is_binary (expr_of e.now) ≡ true }
+    ensures value { IfOk result (λ v. means nat_eq (expr_of e.now) (row_of names.now cells.now) (map_of frame.now.items) ≡ Ok v) }
+    ensures raise { (c : Class) → result ≡ Err (OpError.Raise c) → means nat_eq (expr_of e.now) (row_of names.now cells.now) (map_of frame.now.items) ≡ Err c }
+{
+    let BoundExpr::Binary(a, op, b) = e else {
+        unreachable!();
+    };
+    let mut room = Value::Nil;
+    let x = look(alloc, a.get(), names, &*cells, &*frame, &mut room)?;
+    let mut more = Value::Nil;
+    let y = look(alloc, b.get(), names, &*cells, &*frame, &mut more)?;
+    binary(alloc, *op, x, y)
+}
+
+// A chain of comparisons.
+#[inline(never)]
+#[cycle(eval)]
+fn compared<'b>(
+    alloc: Global,
+    e: &BoundExpr,
+    names: &[Bytes],
+    cells: &'b [Value],
+    frame: &'b Frame<'_>,
+) -> Result<Value, OpError>
+    requires kind { is_compare (expr_of e.now) ≡ true }
+    ensures value { IfOk result (λ v. means nat_eq (expr_of e.now) (row_of names.now cells.now) (map_of frame.now.items) ≡ Ok v) }
+    ensures raise { (c : Class) → result ≡ Err (OpError.Raise c) → means nat_eq (expr_of e.now) (row_of names.now cells.now) (map_of frame.now.items) ≡ Err c }
+{
+    let BoundExpr::Compare(a, os) = e else {
+        unreachable!();
+    };
+    if let [o] = os.as_slice() {
+        let mut room = Value::Nil;
+        let x = look(alloc, a.get(), names, &*cells, &*frame, &mut room)?;
+        let mut more = Value::Nil;
+        let y = look(alloc, &o.right, names, &*cells, &*frame, &mut more)?;
+        return Ok(Value::Truth(compare(o.op, x, y)?));
+    }
+    let first = eval(alloc, a.get(), names, cells, frame)?;
+    let holds = chain(alloc, os.as_slice(), first, names, cells, frame)?;
+    Ok(Value::Truth(holds))
+}
+
+#[inline(never)]
+#[cycle(eval)]
+fn negated<'b>(
+    alloc: Global,
+    a: &BoundExpr,
+    names: &[Bytes],
+    cells: &'b [Value],
+    frame: &'b Frame<'_>,
+) -> Result<Value, OpError>
+    ensures value { IfOk result (λ v. means nat_eq (negation (expr_of a.now)) (row_of names.now cells.now) (map_of frame.now.items) ≡ Ok v) }
+    ensures raise { (c : Class) → result ≡ Err (OpError.Raise c) → means nat_eq (negation (expr_of a.now)) (row_of names.now cells.now) (map_of frame.now.items) ≡ Err c }
+{
+    let mut room = Value::Nil;
+    let x = look(alloc, a, names, &*cells, &*frame, &mut room)?;
+    Ok(Value::Truth(!truthy(x)))
+}
+
+// The value of an operand that `and`, `or` or the conditional give, made anew where it stands elsewhere.
+#[inline(never)]
+#[cycle(eval)]
+fn decided<'b>(
+    alloc: Global,
+    e: &BoundExpr,
+    names: &[Bytes],
+    cells: &'b [Value],
+    frame: &'b Frame<'_>,
+) -> Result<Value, OpError>
+    requires kind { is_choice (expr_of e.now) ≡ true }
+    ensures value { IfOk result (λ v. means nat_eq (expr_of e.now) (row_of names.now cells.now) (map_of frame.now.items) ≡ Ok v) }
+    ensures raise { (c : Class) → result ≡ Err (OpError.Raise c) → means nat_eq (expr_of e.now) (row_of names.now cells.now) (map_of frame.now.items) ≡ Err c }
+{
+    let held = decide(alloc, e, names, cells, frame)?;
+    Ok(owned(alloc, held)?)
 }
 
 // `and`, `or` and the conditional, which give an operand.
@@ -254,8 +464,11 @@ fn decide<'b>(
             disjoin(alloc, es.as_slice(), x, names, cells, frame)
         }
         BoundExpr::Conditional { then, test, other } => {
-            let x = eval(alloc, test.get(), names, cells, frame)?;
-            if truthy(seen(&x)) {
+            let holds = {
+                let mut room = Value::Nil;
+                truthy(look(alloc, test.get(), names, &*cells, &*frame, &mut room)?)
+            };
+            if holds {
                 eval(alloc, then.get(), names, cells, frame)
             } else {
                 eval(alloc, other.get(), names, cells, frame)
@@ -267,7 +480,7 @@ fn decide<'b>(
 
 #[tactic(auto, using(crate::proofs::Slots::outs))]
 #[cycle(eval)]
-fn eval_each<'b>(
+fn make_each<'b>(
     alloc: Global,
     es: &[BoundExpr],
     names: &[Bytes],
@@ -277,17 +490,16 @@ fn eval_each<'b>(
     ensures value { IfOk result (λ vs. means_each nat_eq (exprs (map expr_of es.now)) (row_of names.now cells.now) (map_of frame.now.items) ≡ Ok vs) }
     ensures raise { (c : Class) → result ≡ Err (OpError.Raise c) → means_each nat_eq (exprs (map expr_of es.now)) (row_of names.now cells.now) (map_of frame.now.items) ≡ Err c }
 {
-    let mut out = Items::new(alloc);
+    let mut out = room_for(alloc, es.len())?;
     for e in es {
-        let held = eval(alloc, e, names, cells, frame)?;
-        out.push(owned(alloc, held)?)?;
+        out.push(make(alloc, e, names, cells, frame)?)?;
     }
     Ok(out)
 }
 
 #[tactic(auto, using(crate::proofs::Slots::outs))]
 #[cycle(eval)]
-fn eval_pairs<'b>(
+fn make_pairs<'b>(
     alloc: Global,
     ps: &[BoundPair],
     names: &[Bytes],
@@ -299,26 +511,27 @@ fn eval_pairs<'b>(
 {
     let mut out = Pairs::new(alloc);
     for p in ps {
-        let key = eval(alloc, &p.key, names, cells, frame)?;
-        let value = eval(alloc, &p.value, names, cells, frame)?;
-        out.push((owned(alloc, key)?, owned(alloc, value)?))?;
+        let key = make(alloc, &p.key, names, cells, frame)?;
+        let value = make(alloc, &p.value, names, cells, frame)?;
+        out.push((key, value))?;
     }
     Ok(out)
 }
 
 #[cycle(eval)]
-fn eval_maybe<'b>(
+fn look_maybe<'b>(
     alloc: Global,
     e: &BoundMaybe,
     names: &[Bytes],
     cells: &'b [Value],
     frame: &'b Frame<'_>,
-) -> Result<Option<Held<'b>>, OpError>
-    ensures value { IfOk result (λ o. means_maybe nat_eq (maybe_of e.now) (row_of names.now cells.now) (map_of frame.now.items) ≡ Ok (option_map value_in o)) }
+    room: &'b mut Value,
+) -> Result<Option<&'b Value>, OpError>
+    ensures value { IfOk result (λ v. means_maybe nat_eq (maybe_of e.now) (row_of names.now cells.now) (map_of frame.now.items) ≡ Ok (option_copied v)) }
     ensures raise { (c : Class) → result ≡ Err (OpError.Raise c) → means_maybe nat_eq (maybe_of e.now) (row_of names.now cells.now) (map_of frame.now.items) ≡ Err c }
 {
     match e {
-        BoundMaybe::Present(a) => Ok(Some(eval(alloc, a.get(), names, cells, frame)?)),
+        BoundMaybe::Present(a) => Ok(Some(look(alloc, a.get(), names, cells, frame, room)?)),
         BoundMaybe::Absent => Ok(None),
     }
 }
@@ -403,11 +616,14 @@ fn eval_items<'b>(
 {
     match over {
         Iterable::Value(a) => {
-            let x = eval(alloc, a.get(), names, cells, frame)?;
-            iterate(alloc, seen(&x))
+            let mut room = Value::Nil;
+            iterate(
+                alloc,
+                look(alloc, a.get(), names, &*cells, &*frame, &mut room)?,
+            )
         }
         Iterable::Walk(w, es) => {
-            let args = eval_each(alloc, es.as_slice(), names, cells, frame)?;
+            let args = make_each(alloc, es.as_slice(), names, cells, frame)?;
             items_of(alloc, *w, &args)
         }
         Iterable::View(a, w) => {
@@ -415,7 +631,7 @@ fn eval_items<'b>(
             if !has_views(seen(&x)) {
                 return Err(OpError::Raise(Class::AttributeError));
             }
-            let mut args = Items::new(alloc);
+            let mut args = room_for(alloc, 1)?;
             args.push(owned(alloc, x)?)?;
             items_of(alloc, *w, &args)
         }
@@ -435,34 +651,10 @@ fn is_wanted<'b>(
 {
     match e {
         BoundMaybe::Present(a) => {
-            let x = eval(alloc, a.get(), names, cells, frame)?;
-            Ok(truthy(seen(&x)))
+            let mut room = Value::Nil;
+            Ok(truthy(look(alloc, a.get(), names, &*cells, &*frame, &mut room)?))
         }
         BoundMaybe::Absent => Ok(true),
-    }
-}
-
-#[cycle(eval)]
-fn eval_builtin<'b>(
-    alloc: Global,
-    es: &[BoundExpr],
-    b: Builtin,
-    names: &[Bytes],
-    cells: &'b [Value],
-    frame: &'b Frame<'_>,
-) -> Result<Value, OpError>
-    ensures value { IfOk result (λ v. builtin_of_each b (exprs (map expr_of es.now)) (row_of names.now cells.now) (map_of frame.now.items) ≡ Ok v) }
-    ensures raise { (c : Class) → result ≡ Err (OpError.Raise c) → builtin_of_each b (exprs (map expr_of es.now)) (row_of names.now cells.now) (map_of frame.now.items) ≡ Err c }
-{
-    match es {
-        [e] => {
-            let held = eval(alloc, e, names, cells, frame)?;
-            builtin_of_one(alloc, b, seen(&held))
-        }
-        _ => {
-            let args = eval_each(alloc, es, names, cells, frame)?;
-            builtin(alloc, b, &args)
-        }
     }
 }
 
@@ -519,20 +711,19 @@ fn add_turn<'b>(
     let mut inner = lent_frame(alloc, &*frame)?;
     take(alloc, &mut inner, target, Held::Lent(&*item))?;
     if is_wanted(alloc, condition, names, &*cells, &inner)? {
-        let held = eval(alloc, element.get(), names, &*cells, &inner)?;
-        longer(sofar, owned(alloc, held)?)
+        longer(sofar, make(alloc, element.get(), names, &*cells, &inner)?)
     } else {
         Ok(sofar)
     }
 }
 
 #[cycle(eval)]
-fn run(
+fn run<'a>(
     alloc: Global,
     s: &BoundStmt,
     names: &[Bytes],
-    cells: &[Value],
-    frame: &mut Frame<'_>,
+    cells: &'a [Value],
+    frame: &mut Frame<'a>,
 ) -> Result<End, OpError>
     ensures end { IfOk result (λ e. runs nat_eq (statement_of s.now) (row_of names.now cells.now) (map_of frame.old.items) ≡ Ok (course e frame.new.items)) }
     ensures raise { (c : Class) → result ≡ Err (OpError.Raise c) → runs nat_eq (statement_of s.now) (row_of names.now cells.now) (map_of frame.old.items) ≡ Err c }
@@ -541,59 +732,174 @@ fn run(
         BoundStmt::Pass => Ok(End::GoesOn),
         BoundStmt::Break => Ok(End::Breaks),
         BoundStmt::Continue => Ok(End::Continues),
-        BoundStmt::Return(a) => match eval_maybe(alloc, a, names, &*cells, &*frame)? {
-            Some(held) => Ok(End::GivesBack(owned(alloc, held)?)),
-            None => Ok(End::GivesBack(Value::Nil)),
-        },
-        BoundStmt::Assign(target, a) => {
-            let held = eval(alloc, a, names, &*cells, &*frame)?;
-            let value = owned(alloc, held)?;
-            take(alloc, frame, target, Held::Own(value))?;
-            Ok(End::GoesOn)
-        }
-        BoundStmt::Augment(slot, op, a) => {
-            let value = {
-                let x = local(&*frame, *slot)?;
-                let y = eval(alloc, a, names, &*cells, &*frame)?;
-                if is_list(seen(&x)) {
-                    return Err(OpError::Raise(Class::ProfileError));
-                }
-                binary(alloc, *op, seen(&x), seen(&y))?
-            };
-            put(frame, *slot, Held::Own(value))?;
-            Ok(End::GoesOn)
-        }
-        BoundStmt::Express(a) => {
-            let _held = eval(alloc, a, names, &*cells, &*frame)?;
-            Ok(End::GoesOn)
-        }
+        BoundStmt::Return(..) => give_back(alloc, s, names, cells, frame),
+        BoundStmt::Assign(..) => assign(alloc, s, names, cells, frame),
+        BoundStmt::Augment(..) => augment(alloc, s, names, cells, frame),
+        BoundStmt::Express(..) => express(alloc, s, names, cells, frame),
         BoundStmt::If(..) => choose(alloc, s, names, cells, frame),
-        BoundStmt::For {
-            target,
-            iterable,
-            body,
-        } => {
-            let items = eval_items(alloc, iterable, names, &*cells, &*frame)?;
-            run_turns(
-                alloc,
-                body.as_slice(),
-                target,
-                items.as_slice(),
-                names,
-                cells,
-                frame,
-            )
-        }
+        BoundStmt::For { .. } => repeat(alloc, s, names, cells, frame),
     }
 }
 
+// A `return`.
+#[inline(never)]
 #[cycle(eval)]
-fn run_all(
+fn give_back<'a>(
+    alloc: Global,
+    s: &BoundStmt,
+    names: &[Bytes],
+    cells: &'a [Value],
+    frame: &mut Frame<'a>,
+) -> Result<End, OpError>
+    requires kind { is_return (statement_of s.now) ≡ true }
+    ensures end { IfOk result (λ e. runs nat_eq (statement_of s.now) (row_of names.now cells.now) (map_of frame.old.items) ≡ Ok (course e frame.new.items)) }
+    ensures raise { (c : Class) → result ≡ Err (OpError.Raise c) → runs nat_eq (statement_of s.now) (row_of names.now cells.now) (map_of frame.old.items) ≡ Err c }
+{
+    match s {
+        BoundStmt::Return(BoundMaybe::Present(a)) => Ok(End::GivesBack(make(
+            alloc,
+            a.get(),
+            names,
+            &*cells,
+            &*frame,
+        )?)),
+        BoundStmt::Return(BoundMaybe::Absent) => Ok(End::GivesBack(Value::Nil)),
+        _ => unreachable!(),
+    }
+}
+
+// What an assignment keeps: a cell of the row is lent to the frame, which does not outlive it.
+#[cycle(eval)]
+fn kept<'a>(
+    alloc: Global,
+    e: &BoundExpr,
+    names: &[Bytes],
+    cells: &'a [Value],
+    frame: &Frame<'a>,
+) -> Result<Held<'a>, OpError>
+    ensures value { IfOk result (λ v. means nat_eq (expr_of e.now) (row_of names.now cells.now) (map_of frame.now.items) ≡ Ok (value_in v)) }
+    ensures raise { (c : Class) → result ≡ Err (OpError.Raise c) → means nat_eq (expr_of e.now) (row_of names.now cells.now) (map_of frame.now.items) ≡ Err c }
+{
+    match e {
+        BoundExpr::Cell(column) => Ok(Held::Lent(cell(names, cells, column)?)),
+        _ => Ok(Held::Own(make(alloc, e, names, &*cells, frame)?)),
+    }
+}
+
+// An assignment.
+#[inline(never)]
+#[cycle(eval)]
+fn assign<'a>(
+    alloc: Global,
+    s: &BoundStmt,
+    names: &[Bytes],
+    cells: &'a [Value],
+    frame: &mut Frame<'a>,
+) -> Result<End, OpError>
+    requires kind { is_assign (statement_of s.now) ≡ true }
+    ensures end { IfOk result (λ e. runs nat_eq (statement_of s.now) (row_of names.now cells.now) (map_of frame.old.items) ≡ Ok (course e frame.new.items)) }
+    ensures raise { (c : Class) → result ≡ Err (OpError.Raise c) → runs nat_eq (statement_of s.now) (row_of names.now cells.now) (map_of frame.old.items) ≡ Err c }
+{
+    let BoundStmt::Assign(target, a) = s else {
+        unreachable!();
+    };
+    let held = kept(alloc, a, names, cells, &*frame)?;
+    take(alloc, frame, target, held)?;
+    Ok(End::GoesOn)
+}
+
+// `name += value` and its kin.
+#[inline(never)]
+#[cycle(eval)]
+fn augment<'a>(
+    alloc: Global,
+    s: &BoundStmt,
+    names: &[Bytes],
+    cells: &'a [Value],
+    frame: &mut Frame<'a>,
+) -> Result<End, OpError>
+    requires kind { is_augment (statement_of s.now) ≡ true }
+    ensures end { IfOk result (λ e. runs nat_eq (statement_of s.now) (row_of names.now cells.now) (map_of frame.old.items) ≡ Ok (course e frame.new.items)) }
+    ensures raise { (c : Class) → result ≡ Err (OpError.Raise c) → runs nat_eq (statement_of s.now) (row_of names.now cells.now) (map_of frame.old.items) ≡ Err c }
+{
+    let BoundStmt::Augment(slot, op, a) = s else {
+        unreachable!();
+    };
+    let value = {
+        let x = local(&*frame, *slot)?;
+        let mut room = Value::Nil;
+        let y = look(alloc, a, names, &*cells, &*frame, &mut room)?;
+        if is_list(x) {
+            return Err(OpError::Raise(Class::ProfileError));
+        }
+        binary(alloc, *op, x, y)?
+    };
+    put(frame, *slot, Held::Own(value))?;
+    Ok(End::GoesOn)
+}
+
+// An expression alone.
+#[inline(never)]
+#[cycle(eval)]
+fn express<'a>(
+    alloc: Global,
+    s: &BoundStmt,
+    names: &[Bytes],
+    cells: &'a [Value],
+    frame: &mut Frame<'a>,
+) -> Result<End, OpError>
+    requires kind { is_express (statement_of s.now) ≡ true }
+    ensures end { IfOk result (λ e. runs nat_eq (statement_of s.now) (row_of names.now cells.now) (map_of frame.old.items) ≡ Ok (course e frame.new.items)) }
+    ensures raise { (c : Class) → result ≡ Err (OpError.Raise c) → runs nat_eq (statement_of s.now) (row_of names.now cells.now) (map_of frame.old.items) ≡ Err c }
+{
+    let BoundStmt::Express(a) = s else {
+        unreachable!();
+    };
+    let _value = make(alloc, a, names, &*cells, &*frame)?;
+    Ok(End::GoesOn)
+}
+
+// A `for`: its items are made before its first turn.
+#[inline(never)]
+#[cycle(eval)]
+fn repeat<'a>(
+    alloc: Global,
+    s: &BoundStmt,
+    names: &[Bytes],
+    cells: &'a [Value],
+    frame: &mut Frame<'a>,
+) -> Result<End, OpError>
+    requires kind { is_repeat (statement_of s.now) ≡ true }
+    ensures end { IfOk result (λ e. runs nat_eq (statement_of s.now) (row_of names.now cells.now) (map_of frame.old.items) ≡ Ok (course e frame.new.items)) }
+    ensures raise { (c : Class) → result ≡ Err (OpError.Raise c) → runs nat_eq (statement_of s.now) (row_of names.now cells.now) (map_of frame.old.items) ≡ Err c }
+{
+    let BoundStmt::For {
+        target,
+        iterable,
+        body,
+    } = s
+    else {
+        unreachable!();
+    };
+    let items = eval_items(alloc, iterable, names, &*cells, &*frame)?;
+    run_turns(
+        alloc,
+        body.as_slice(),
+        target,
+        items.as_slice(),
+        names,
+        cells,
+        frame,
+    )
+}
+
+#[cycle(eval)]
+fn run_all<'a>(
     alloc: Global,
     body: &[BoundStmt],
     names: &[Bytes],
-    cells: &[Value],
-    frame: &mut Frame<'_>,
+    cells: &'a [Value],
+    frame: &mut Frame<'a>,
 ) -> Result<End, OpError>
     ensures end { IfOk result (λ e. runs_all nat_eq (statements (map statement_of body.now)) (row_of names.now cells.now) (map_of frame.old.items) ≡ Ok (course e frame.new.items)) }
     ensures raise { (c : Class) → result ≡ Err (OpError.Raise c) → runs_all nat_eq (statements (map statement_of body.now)) (row_of names.now cells.now) (map_of frame.old.items) ≡ Err c }
@@ -611,12 +917,12 @@ fn run_all(
 
 // An `if`.
 #[cycle(eval)]
-fn choose(
+fn choose<'a>(
     alloc: Global,
     s: &BoundStmt,
     names: &[Bytes],
-    cells: &[Value],
-    frame: &mut Frame<'_>,
+    cells: &'a [Value],
+    frame: &mut Frame<'a>,
 ) -> Result<End, OpError>
     requires kind { is_branch (statement_of s.now) ≡ true }
     ensures end { IfOk result (λ e. runs nat_eq (statement_of s.now) (row_of names.now cells.now) (map_of frame.old.items) ≡ Ok (course e frame.new.items)) }
@@ -627,8 +933,8 @@ fn choose(
     };
     for arm in arms.as_slice() {
         let holds = {
-            let x = eval(alloc, &arm.test, names, &*cells, &*frame)?;
-            truthy(seen(&x))
+            let mut room = Value::Nil;
+            truthy(look(alloc, &arm.test, names, &*cells, &*frame, &mut room)?)
         };
         if holds {
             return run_all(alloc, arm.body.as_slice(), names, cells, frame);
@@ -638,14 +944,14 @@ fn choose(
 }
 
 #[cycle(eval)]
-fn run_turn(
+fn run_turn<'a>(
     alloc: Global,
     body: &[BoundStmt],
     target: &BoundTarget,
     item: &Value,
     names: &[Bytes],
-    cells: &[Value],
-    frame: &mut Frame<'_>,
+    cells: &'a [Value],
+    frame: &mut Frame<'a>,
 ) -> Result<End, OpError>
     ensures end { IfOk result (λ e. turn nat_eq (runs_all nat_eq (statements (map statement_of body.now)) (row_of names.now cells.now)) (target_of target.now) item.now (map_of frame.old.items) ≡ Ok (course e frame.new.items)) }
     ensures raise { (c : Class) → result ≡ Err (OpError.Raise c) → turn nat_eq (runs_all nat_eq (statements (map statement_of body.now)) (row_of names.now cells.now)) (target_of target.now) item.now (map_of frame.old.items) ≡ Err c }
@@ -657,14 +963,14 @@ fn run_turn(
 
 #[tactic(auto, unfolding(tx_meaning::specs::Meaning::turns))]
 #[cycle(eval)]
-fn run_turns(
+fn run_turns<'a>(
     alloc: Global,
     body: &[BoundStmt],
     target: &BoundTarget,
     items: &[Value],
     names: &[Bytes],
-    cells: &[Value],
-    frame: &mut Frame<'_>,
+    cells: &'a [Value],
+    frame: &mut Frame<'a>,
 ) -> Result<End, OpError>
     ensures end { IfOk result (λ e. turns nat_eq (runs_all nat_eq (statements (map statement_of body.now)) (row_of names.now cells.now)) (target_of target.now) items.now (map_of frame.old.items) ≡ Ok (course e frame.new.items)) }
     ensures raise { (c : Class) → result ≡ Err (OpError.Raise c) → turns nat_eq (runs_all nat_eq (statements (map statement_of body.now)) (row_of names.now cells.now)) (target_of target.now) items.now (map_of frame.old.items) ≡ Err c }

@@ -7,6 +7,7 @@ ghost use Rattle.tx_meaning.specs.Maps.{no_locals, put, put_all, read_cell, read
 ghost use Rattle.tx_interp.specs.Frames.{map_of, value_in};
 
 use crate::held::{Held, seen};
+use crate::leaf::copied;
 use std::alloc::Global;
 use tx_base::Class;
 use tx_methods::iterate;
@@ -36,15 +37,24 @@ pub(crate) fn empty_frame<'a>(alloc: Global) -> Frame<'a>
 
 /// The value of a local name.
 #[tactic(auto, unfolding(crate::specs::Frames::map_of))]
-pub(crate) fn local<'b>(frame: &'b Frame<'_>, slot: usize) -> Result<Held<'b>, OpError>
-    ensures value { IfOk result (λ h. read_local (map_of frame.now.items slot) ≡ Ok (value_in h)) }
+pub(crate) fn local<'b>(frame: &'b Frame<'_>, slot: usize) -> Result<&'b Value, OpError>
+    ensures value { IfOk result (λ v. read_local (map_of frame.now.items slot) ≡ Ok v.now) }
     ensures raise { (c : Class) → result ≡ Err (OpError.Raise c) → read_local (map_of frame.now.items slot) ≡ Err c }
 {
     match frame.get(slot) {
-        Some(Some(held)) => Ok(Held::Lent(seen(held))),
+        Some(Some(held)) => Ok(seen(held)),
         Some(None) => Err(OpError::Raise(Class::UnboundLocalError)),
         None => Err(OpError::Raise(Class::UnboundLocalError)),
     }
+}
+
+/// The value of a local name, made anew.
+pub(crate) fn local_copy(alloc: Global, frame: &Frame<'_>, slot: usize) -> Result<Value, OpError>
+    ensures value { IfOk result (λ v. read_local (map_of frame.now.items slot) ≡ Ok v) }
+    ensures raise { (c : Class) → result ≡ Err (OpError.Raise c) → read_local (map_of frame.now.items slot) ≡ Err c }
+{
+    let value = local(frame, slot)?;
+    Ok(copied(alloc, value)?)
 }
 
 // Makes room for a slot.
@@ -163,16 +173,30 @@ pub(crate) fn cell<'b>(
     names: &[Bytes],
     cells: &'b [Value],
     column: &PyText,
-) -> Result<Held<'b>, OpError>
-    ensures value { IfOk result (λ h. read_cell (row_of names.now cells.now column.now) ≡ Ok (value_in h)) }
+) -> Result<&'b Value, OpError>
+    ensures value { IfOk result (λ v. read_cell (row_of names.now cells.now column.now) ≡ Ok v.now) }
     ensures raise { (c : Class) → result ≡ Err (OpError.Raise c) → read_cell (row_of names.now cells.now column.now) ≡ Err c }
 {
     for i in 0..names.len().min(cells.len()) {
         if is_named(&names[i], column) {
-            return Ok(Held::Lent(&cells[i]));
+            return Ok(&cells[i]);
         }
     }
     Err(OpError::Raise(Class::KeyError))
+}
+
+/// The cell of the first column of a name, made anew.
+pub(crate) fn cell_copy(
+    alloc: Global,
+    names: &[Bytes],
+    cells: &[Value],
+    column: &PyText,
+) -> Result<Value, OpError>
+    ensures value { IfOk result (λ v. read_cell (row_of names.now cells.now column.now) ≡ Ok v) }
+    ensures raise { (c : Class) → result ≡ Err (OpError.Raise c) → read_cell (row_of names.now cells.now column.now) ≡ Err c }
+{
+    let value = cell(names, cells, column)?;
+    Ok(copied(alloc, value)?)
 }
 
 // Whether a column has this name.

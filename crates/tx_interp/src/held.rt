@@ -1,11 +1,11 @@
 // Values that an evaluation lends or owns.
-ghost use Rattle.std.specs.Prelude.{◌≡◌, IfOk, option_map};
-ghost use Rattle.std.specs.Option.{option_copied};
+ghost use Rattle.std.specs.Prelude.{◌≡◌, IfOk};
 ghost use Rattle.tx_interp.specs.Frames.{value_in};
 
+use crate::leaf::copied;
 use std::alloc::Global;
 use tx_text::NoMemory;
-use tx_values::{Value, copy};
+use tx_values::Value;
 
 /// A value: one that stands in an argument, a row or a frame is lent, one that was made is owned.
 #[derive(Drop)]
@@ -29,17 +29,20 @@ pub(crate) fn owned(alloc: Global, held: Held<'_>) -> Result<Value, NoMemory>
     ensures { IfOk result (λ v. v ≡ value_in held.entry) }
 {
     match held {
-        Held::Lent(value) => copy(alloc, value),
+        Held::Lent(value) => copied(alloc, value),
         Held::Own(value) => Ok(value),
     }
 }
 
-/// The value, if there is one, to be looked at.
-pub(crate) fn seen_maybe<'b>(held: &'b Option<Held<'_>>) -> Option<&'b Value>
-    ensures { option_copied result ≡ option_map value_in held.now }
+/// The value, to be looked at: one that is owned moves into a room for it.
+pub(crate) fn lodged<'b>(held: Held<'b>, room: &'b mut Value) -> &'b Value
+    ensures { result.now ≡ value_in held.entry }
 {
     match held {
-        Some(held) => Some(seen(held)),
-        None => None,
+        Held::Lent(value) => value,
+        Held::Own(value) => {
+            *room = value;
+            &*room
+        }
     }
 }

@@ -7,11 +7,11 @@ use Rattle.tx_interp.specs.Frames.{map_of, value_in, adds_all, chooses_from}
 use Rattle.tx_interp.specs.Weighed.{IsGrowing}
 use Rattle.tx_interp.proofs.eval.+eval.Given as goal
 
-abbrev pub invariant-eval_each-loop-e : goal.invariant-eval_each-loop-e
-invariant-eval_each-loop-e l = (means_each nat_eq (exprs (map expr_of (drop l.e-index l.es))) (row_of l.names l.cells) (map_of l.frame.items) >>= (λ vs. Ok (l.out ++ vs))) ≡ means_each nat_eq (exprs (map expr_of l.es)) (row_of l.names l.cells) (map_of l.frame.items)
+abbrev pub invariant-make_each-loop-e : goal.invariant-make_each-loop-e
+invariant-make_each-loop-e l = (means_each nat_eq (exprs (map expr_of (drop l.e-index l.es))) (row_of l.names l.cells) (map_of l.frame.items) >>= (λ vs. Ok (l.out ++ vs))) ≡ means_each nat_eq (exprs (map expr_of l.es)) (row_of l.names l.cells) (map_of l.frame.items)
 
-abbrev pub invariant-eval_pairs-loop-p : goal.invariant-eval_pairs-loop-p
-invariant-eval_pairs-loop-p l = (means_pairs nat_eq (pairs (map pair_of (drop l.p-index l.ps))) (row_of l.names l.cells) (map_of l.frame.items) >>= (λ vs. Ok (l.out ++ vs))) ≡ means_pairs nat_eq (pairs (map pair_of l.ps)) (row_of l.names l.cells) (map_of l.frame.items)
+abbrev pub invariant-make_pairs-loop-p : goal.invariant-make_pairs-loop-p
+invariant-make_pairs-loop-p l = (means_pairs nat_eq (pairs (map pair_of (drop l.p-index l.ps))) (row_of l.names l.cells) (map_of l.frame.items) >>= (λ vs. Ok (l.out ++ vs))) ≡ means_pairs nat_eq (pairs (map pair_of l.ps)) (row_of l.names l.cells) (map_of l.frame.items)
 
 abbrev pub invariant-chain-loop-o : goal.invariant-chain-loop-o
 invariant-chain-loop-o l = means_chain nat_eq (comparisons (map operand_of (drop l.o-index l.os))) (value_in l.x) (row_of l.names l.cells) (map_of l.frame.items) ≡ means_chain nat_eq (comparisons (map operand_of l.os)) (value_in l.fn.first) (row_of l.names l.cells) (map_of l.frame.items)

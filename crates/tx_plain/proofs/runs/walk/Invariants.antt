@@ -1,0 +1,18 @@
+use Rattle.std.proofs.Common.{◌≡◌, ◌+◌, ◌++◌, drop}
+use Rattle.std.specs.List.{sum_by}
+use Rattle.tx_pipe.specs.Pipe.{pipe_of}
+use Rattle.tx_plain.specs.Operators.{reports, rows_out}
+use Rattle.tx_plain.specs.Pipeline.{evaluate}
+use Rattle.tx_plain.specs.RowWise.{evaluations_through, through}
+use Rattle.tx_plain.specs.Calls.Holding.{rows_stored}
+use Rattle.tx_plain.specs.Calls.Tracking.{Tracks}
+use Rattle.tx_plain.proofs.runs.walk.Given as goal
+
+abbrev pub invariant-loop-place : goal.invariant-loop-place
+invariant-loop-place g l =
+    let on = through evaluate l.s l.number (pipe_of l.nodes) in
+    let all = rows_stored l.stored in
+    (l.rows ++ rows_out on (drop l.place all) ≡ l.initial.rows ++ rows_out on all)
+    × (l.entries ++ reports on (drop l.place all) ≡ l.initial.entries ++ reports on all)
+    × (l.steps + sum_by (evaluations_through evaluate l.s l.number (pipe_of l.nodes)) (drop l.place all) ≡ l.initial.steps + sum_by (evaluations_through evaluate l.s l.number (pipe_of l.nodes)) all)
+    × Tracks l.initial.steps l.steps l.initial.meter l.meter
