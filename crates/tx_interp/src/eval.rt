@@ -518,6 +518,7 @@ fn make_pairs<'b>(
     Ok(out)
 }
 
+#[inline(never)]
 #[cycle(eval)]
 fn look_maybe<'b>(
     alloc: Global,
@@ -536,6 +537,7 @@ fn look_maybe<'b>(
     }
 }
 
+#[inline(never)]
 #[cycle(eval)]
 fn chain<'b>(
     alloc: Global,
@@ -559,6 +561,7 @@ fn chain<'b>(
     Ok(true)
 }
 
+#[inline(never)]
 #[cycle(eval)]
 fn conjoin<'b>(
     alloc: Global,
@@ -581,6 +584,7 @@ fn conjoin<'b>(
     Ok(x)
 }
 
+#[inline(never)]
 #[cycle(eval)]
 fn disjoin<'b>(
     alloc: Global,
@@ -658,6 +662,7 @@ fn is_wanted<'b>(
     }
 }
 
+#[inline(never)]
 #[tactic(auto, unfolding(tx_meaning::specs::Meaning::collect))]
 #[cycle(eval)]
 fn comprehend<'b>(
@@ -916,6 +921,7 @@ fn run_all<'a>(
 }
 
 // An `if`.
+#[inline(never)]
 #[cycle(eval)]
 fn choose<'a>(
     alloc: Global,
