@@ -89,15 +89,37 @@ holds $report 'operator,kind,class,row\n'
 # What the README shows: its files are those of examples/, and its answers are what comes.
 mkdir "$work/readme" && cd "$work/readme" || exit 1
 name=readme
-cp "$top"/examples/two-sums/* .
-shown 'The script `sums.txs`' | cmp -s - sums.txs || wants 'the script' "$(cat sums.txs)" "$(shown 'The script `sums.txs`')"
+cp "$top"/examples/orders/* .
+shown 'The script `totals.txs`' | cmp -s - totals.txs || wants 'the script' "$(cat totals.txs)" "$(shown 'The script `totals.txs`')"
 shown 'Its input `orders.csv`' | cmp -s - orders.csv || wants 'the input' "$(cat orders.csv)" "$(shown 'Its input `orders.csv`')"
-ends 0 '' 'rows 3 exceptions 2\n' run sums.txs
-grep -q 'It says `rows 3 exceptions 2`' "$top/README.md" || wants 'the line' 'not in the README' 'rows 3 exceptions 2'
+ends 0 '' 'rows 4 exceptions 1\n' run totals.txs
+grep -q 'It says `rows 4 exceptions 1`' "$top/README.md" || wants 'the line' 'not in the README' 'rows 4 exceptions 1'
 shown 'What it writes to `totals.csv`' >shown.csv
 same totals.csv shown.csv
 shown 'the report `totals.csv.exceptions.csv`' >shown.csv
 same totals.csv.exceptions.csv shown.csv
+
+# The other examples.
+example() {
+  name=examples/$1
+  mkdir -p "$work/$name" && cd "$work/$name" || exit 1
+  cp "$top/$name"/* .
+}
+
+example two-sums
+ends 0 '' 'rows 3 exceptions 2\n' run sums.txs
+holds totals.csv 'id,price,shipping,note,total\n1,250,20,"books, two",270\n2,90,5,,95\n5,1200,True,"by ""post""",1201\n'
+holds totals.csv.exceptions.csv 'operator,kind,class,row\n2,withColumn,TypeError,1:3\n2,withColumn,TypeError,1:4\n'
+
+example listings
+ends 0 '' 'rows 2 exceptions 1\n' run listings.txs
+holds clean.csv 'title,beds,sqft,price\nHouse For Sale,3,1560,489000\nCondo For Sale,0,520,210000\n'
+holds clean.csv.exceptions.csv 'operator,kind,class,row\n4,withColumn,TypeError,1:3\n'
+
+example customers
+ends 0 '' 'rows 3 exceptions 1\n' run named.txs
+holds named.csv 'order,name,town,amount\n1,Ada,Bern,12\n2,Max,Bonn,30\n3,,,5\n'
+holds named.csv.exceptions.csv 'operator,kind,class,row\n4,mapColumn,ValueError,3:5\n'
 
 # 100,000 records, of which every seventh raises.
 fresh many-records
@@ -139,11 +161,48 @@ rm in.csv
 ends 6 'tuplex: in.csv: read failed\n' '' run s.txs
 wants "the folder" "$(ls -A)" s.txs
 
-fresh another-form
-printf 'csv("in.csv").tocsv("out.csv")\n' >t.txs
-ends 10 'tuplex: not this form\n' '' run t.txs
+fresh a-refused-script
+printf 'csv("in.csv").sort().tocsv("out.csv")\n' >t.txs
+ends 3 'tuplex: script line 1: Operator\n' '' run t.txs
 rm t.txs
 keeps
+
+fresh a-missing-column
+printf 'csv("in.csv").selectColumns(["a", "zz"]).tocsv("out.csv")\n' >t.txs
+ends 4 'tuplex: operator 2: no column zz\n' '' run t.txs
+rm t.txs
+keeps
+
+# A script of exactly the limit, and one of a byte more.
+fresh a-long-script
+{ printf '%s\n#' "$sums"; head -c $((262144 - ${#sums} - 2)) /dev/zero | tr '\0' x; } >t.txs
+wants 'the size' "$(wc -c <t.txs)" 262144
+ends 0 '' 'rows 2 exceptions 0\n' run t.txs
+printf x >>t.txs
+rm out.csv $report
+ends 3 'tuplex: script line 0: TooLong\n' '' run t.txs
+rm t.txs
+keeps
+
+# An input of exactly the limit, and one of a byte more. Its one record is a field that is too long.
+fresh a-large-input
+printf 'csv("in.csv").tocsv("out.csv")\n' >t.txs
+{ printf 'a\n'; head -c 67108862 /dev/zero | tr '\0' x; } >in.csv
+ends 0 '' 'rows 0 exceptions 1\n' run t.txs
+holds out.csv 'a\n'
+holds $report 'operator,kind,class,row\n1,csv,RecordError,1:1\n'
+rm out.csv $report
+printf x >>in.csv
+ends 5 'tuplex: in.csv: too large\n' '' run t.txs
+wants "the folder" "$(ls -A | tr '\n' ' ')" "in.csv s.txs t.txs "
+rm in.csv
+
+# A file that is too large comes behind a read fault of an earlier input.
+fresh a-missing-input-ahead-of-a-large-one
+printf 'r = csv("none.csv")\ncsv("in.csv").join(r, "a", "a").tocsv("out.csv")\n' >t.txs
+{ printf 'a\n'; head -c 67108863 /dev/zero | tr '\0' x; } >in.csv
+ends 6 'tuplex: none.csv: read failed\n' '' run t.txs
+rm in.csv
 
 fresh an-output-that-is-a-folder
 mkdir out.csv

@@ -5,3 +5,4 @@ mod no_memory;
 mod places;
 mod ran;
 mod real;
+mod scripts;

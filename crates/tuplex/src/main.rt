@@ -1,13 +1,11 @@
 //! The program: it makes the words, the place, the console and the counts, and ends with the status of the outcome.
 #![tactic(auto)]
 
-ghost use Rattle.std.specs.Prelude.{◌≡◌, ◌⊎◌, ◌<◌, None, true};
-ghost use Rattle.tx_place.specs.Place.{KeepsTelling};
-ghost use Rattle.tuplex_run.specs.Words.{script_of};
-ghost use Rattle.tuplex_run.specs.Due.{verdict};
-ghost use Rattle.tuplex_run.specs.Outside.{outside};
+ghost use Rattle.std.specs.Prelude.{◌≡◌, ℕ, ◌<◌, true};
+ghost use Rattle.tx_base.specs.declared.meter.Meter.{Meter};
+ghost use Rattle.tuplex_run.specs.Outside.{outside, at_start};
 ghost use Rattle.tuplex_run.specs.Complaint.{complaint};
-ghost use Rattle.tuplex_run.specs.Ends.{RunsPlainly, Cause, IsComplete, FailsWithin, Stands, Said, Complained};
+ghost use Rattle.tuplex_run.specs.Ends.{RunsPlainly, Ended, Complained};
 
 use std::alloc::Global;
 use std::env;
@@ -56,7 +54,7 @@ fn words<R: Env + Alloc>(alloc: Global, rt: &R) -> Result<Texts, NoMemory> {
     }
 }
 
-// The whole command, with counts of its own.
+// The whole command, with counts of its own: so many steps were taken in the end.
 fn run<P: Place, C: Console, L: Ledger>(
     alloc: Global,
     words: &Texts,
@@ -67,25 +65,14 @@ fn run<P: Place, C: Console, L: Ledger>(
     requires name { blank.name ≡ L.name }
     requires parts { blank.parts ≡ L.parts }
     requires some { 0 < L.parts }
-    ensures headline { RunsPlainly words.now
-        (outside (P.state place.old) (C.state console.old))
-        (outside (P.state place.new) (C.state console.new)) result }
-    ensures cause { Cause words.now
-        (outside (P.state place.old) (C.state console.old))
-        (outside (P.state place.new) (C.state console.new)) result }
-    ensures words { script_of words.now ≡ None → (result ≡ Outcome.Words) ⊎ (result ≡ Outcome.NoMemory) }
-    ensures complete { IsComplete words.now
-        (outside (P.state place.old) (C.state console.old))
-        (outside (P.state place.new) (C.state console.new)) result }
-    ensures stands { (P.state place.old).tells ≡ true
-        → Stands (verdict words.now (P.state place.old).held) (P.state place.old).held (P.state place.new).held result }
-    ensures said { (C.state console.old).tells ≡ true → Said words.now
-        (outside (P.state place.old) (C.state console.old))
-        (outside (P.state place.new) (C.state console.new)) result }
+    ensures headline { (taken : ℕ) × (counts : Meter) × RunsPlainly words.now
+        (at_start (P.state place.old) (C.state console.old))
+        (outside (P.state place.new) (C.state console.new) taken counts) result }
+    ensures ended { (taken : ℕ) × (counts : Meter) × Ended words.now
+        (at_start (P.state place.old) (C.state console.old))
+        (outside (P.state place.new) (C.state console.new) taken counts) result }
     ensures complained { (C.state console.old).tells ≡ true
         → Complained (complaint result) (C.state console.old) (C.state console.new) }
-    ensures named { FailsWithin words.now (P.state place.old) (P.state place.new) }
-    ensures telling { KeepsTelling (P.state place.old) (P.state place.new) }
     ensures console { (C.state console.new).tells ≡ (C.state console.old).tells }
 {
     let mut meter = Meter::new();

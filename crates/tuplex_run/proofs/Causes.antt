@@ -1,26 +1,28 @@
 -- When each outcome of an accepted command comes, from its parts.
-use Rattle.std.proofs.Common.{◌≡◌, ◌≤◌, ◌∙◌, ℕ, List, ◌++◌, true, sym, ap, subst, inr, arith, Contains}
-use Rattle.std.proofs.lemmas.List.Elements.{Contains-append_right}
+use Rattle.std.proofs.Common.{◌≡◌, ◌≤◌, ◌∙◌, ℕ, List, true, subst, inr, arith, Contains}
+use Rattle.tx_base.specs.declared.meter.Meter.{Meter}
 use Rattle.tx_place.specs.Count.{Rose}
 use Rattle.tx_place.specs.Place.{PlaceState}
 use Rattle.tx_place.specs.Console.{ConsoleState}
-use Rattle.tuplex_run.specs.Deed.{Deed, names_of}
+use Rattle.tuplex_run.specs.Deed.{names_of}
 use Rattle.tuplex_run.specs.Outside.{outside}
-use Rattle.tuplex_run.specs.Due.{Verdict, verdict, due, names_read, names_written, names_touched, IsAccepted}
+use Rattle.tuplex_run.specs.Due.{IsVerdict, IsTouchedBy}
 use Rattle.tuplex_run.specs.Ends.{Cause, FailedAmong}
+use Rattle.tuplex_run.specs.Calls.Accept.{as_deed}
 use Rattle.tuplex_run.specs.Calls.Refusals.{OnlyRead, NoReadFailed}
 use Rattle.tuplex_run.specs.Calls.Finish.{FinishCause}
+use Rattle.tuplex_run.specs.declared.accept.Accepted.{Accepted}
 use Rattle.tuplex_run.specs.declared.outcome.Outcome.{Outcome}
-use Rattle.tuplex_run.specs.declared.outcome.Outcome.TheVariants.{Done, Words, NotThisForm, ReadFault, WriteFault, ConsoleFault, NoMemory}
+use Rattle.tuplex_run.specs.declared.outcome.Outcome.TheVariants.{Done, Words, Script, Columns, TooLarge, ReadFault, WriteFault, ConsoleFault, NoMemory}
 use Rattle.tuplex_run.proofs.Failures.{among_more, among_later}
 
 at_most : (a b : ℕ) → a ≡ b → a ≤ b
 at_most a b e = omega (arith, e)
 
 -- it was accepted, and then wrote and said
-module _ (words : List (List ℕ)) (old mid new : PlaceState) (was now : ConsoleState) (deed : Deed)
+module _ (words : List (List ℕ)) (old mid new : PlaceState) (was now : ConsoleState) (run : Accepted) (evaluations s s' : ℕ) (m m' : Meter)
     (only : OnlyRead old mid) (still : NoReadFailed old mid) (reads : new.read_faults ≡ mid.read_faults)
-    (accepted : old.tells ≡ true → verdict words old.held ≡ inr deed) where
+    (accepted : old.tells ≡ true → IsVerdict words old.held (inr (as_deed run evaluations))) where
   no_read : new.read_faults ≤ old.read_faults
   no_read = at_most new.read_faults old.read_faults (reads ∙ still.reads)
 
@@ -30,7 +32,7 @@ module _ (words : List (List ℕ)) (old mid new : PlaceState) (was now : Console
   as_it_was : (mid.names_faults ≡ true → new.failed ≡ mid.failed) → old.names_faults ≡ true → new.failed ≡ old.failed
   as_it_was named t = named (only.telling.names_faults ∙ t) ∙ still.named t
 
-  pub finished_cause : (o : Outcome) → FinishCause deed mid new was now o → Cause words (outside old was) (outside new now) o
+  pub finished_cause : (o : Outcome) → FinishCause run mid new was now o → Cause words (outside old was s m) (outside new now s' m') o
   finished_cause (Done rows reported) h = (
     record {
       reads = no_read;
@@ -38,7 +40,7 @@ module _ (words : List (List ℕ)) (old mid new : PlaceState) (was now : Console
       says = at_most now.say_faults was.say_faults h.3;
       named = as_it_was h.2.named;
     },
-    λ t. ap due (accepted t) ∙ (λ i. Done (sym h.0 i) (sym h.1 i)),
+    λ t. (inr (as_deed run evaluations), accepted t, λ i. Done (h.0 i) (h.1 i)),
   )
   finished_cause (WriteFault name) h = (
     record {
@@ -47,7 +49,7 @@ module _ (words : List (List ℕ)) (old mid new : PlaceState) (was now : Console
       says = at_most now.say_faults was.say_faults h.1;
       named = λ t. h.0.2 (only.telling.names_faults ∙ t);
     },
-    λ t. subst (λ (v : Verdict). Contains (names_written v) name) (sym (accepted t)) h.0.0,
+    λ t. (as_deed run evaluations, accepted t, h.0.0),
   )
   finished_cause ConsoleFault h = (
     record {
@@ -56,15 +58,16 @@ module _ (words : List (List ℕ)) (old mid new : PlaceState) (was now : Console
       says = h.1;
       named = as_it_was h.0.named;
     },
-    λ t. subst IsAccepted (sym (accepted t)) tt,
+    λ t. (as_deed run evaluations, accepted t, tt),
   )
   finished_cause NoMemory h = h
   finished_cause Words h = absurd h
-  finished_cause NotThisForm h = absurd h
+  finished_cause (Script fault) h = absurd h
+  finished_cause (Columns fault) h = absurd h
+  finished_cause (TooLarge name) h = absurd h
   finished_cause (ReadFault name) h = absurd h
 
-  pub failed_at_write : old.tells ≡ true → old.names_faults ≡ true → FailedAmong (names_of deed.writes) mid new → FailedAmong (names_touched words old.held) old new
+  pub failed_at_write : old.tells ≡ true → old.names_faults ≡ true → FailedAmong (Contains (names_of run.writes)) mid new → FailedAmong (IsTouchedBy words old.held) old new
   failed_at_write t n h =
-      subst (λ (v : Verdict). FailedAmong (names_read words old.held ++ names_written v) old new) (sym (accepted t))
-      (among_more (names_of deed.writes) (names_read words old.held ++ names_of deed.writes) old new (Contains-append_right (names_read words old.held) (names_of deed.writes))
-      (among_later (names_of deed.writes) old mid new (still.named n) h))
+      among_more (Contains (names_of run.writes)) (IsTouchedBy words old.held) old new (λ name c. inr (as_deed run evaluations, accepted t, c))
+      (among_later (Contains (names_of run.writes)) old mid new (still.named n) h)

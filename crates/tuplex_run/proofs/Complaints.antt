@@ -1,15 +1,11 @@
--- What was said and complained, from the parts of a command.
-use Rattle.std.proofs.Common.{◌≡◌, ◌≤◌, ◌<◌, ℕ, List, ◌++◌, length, take, true, sym, ap, ◌∙◌, subst, inl, inr, arith, append-nil, Result, Ok, Err}
+-- What was complained, from the parts of a command.
+use Rattle.std.proofs.Common.{◌≡◌, ◌≤◌, ◌<◌, ℕ, List, ◌++◌, length, take, true, sym, ap, ◌∙◌, arith, Result, Ok, Err}
 use Rattle.std.proofs.Math.Seq.{take-length}
 use Rattle.tx_place.specs.Console.{ConsoleState, Complains}
 use Rattle.tx_place.specs.declared.place.CallError.{CallError}
 use Rattle.tx_place.specs.declared.place.CallError.TheVariants as call_error
-use Rattle.tuplex_run.specs.Deed.{Deed}
-use Rattle.tuplex_run.specs.Due.{Verdict}
-use Rattle.tuplex_run.specs.Ends.{lines_due, SaidOf, Complained}
-use Rattle.tuplex_run.specs.Calls.Finish.{OnlySays, OnlyComplains, Turns}
-use Rattle.tuplex_run.specs.declared.outcome.Outcome.{Outcome}
-use Rattle.tuplex_run.specs.declared.outcome.Outcome.TheVariants.{Done, Words, NotThisForm, ReadFault, WriteFault, ConsoleFault, NoMemory}
+use Rattle.tuplex_run.specs.Ends.{Complained}
+use Rattle.tuplex_run.specs.Calls.Finish.{OnlySays, OnlyComplains}
 
 -- one complaint
 pub complained_by : (result : Result (Unit {0}) CallError) (bytes : List ℕ) (old new : ConsoleState) → Complains result bytes old new → old.tells ≡ true → Complained bytes old new
@@ -39,61 +35,3 @@ complained_from bytes was mid now a b t h =
           let stay : now.memory_refusals ≡ mid.memory_refusals = omega (arith, m.1, a.memory_refusals, b.memory_refusals) in
           h.whole (few, is) (low, stay) ∙ ap (λ c. c ++ bytes) same;
     }
-
--- what was said of lines that are known now
-pub said_known : (known : Type 0) (lines due : List ℕ) (old new : ConsoleState) → (known → lines ≡ due) → (o : Outcome) → SaidOf (Unit {0}) lines old new o → SaidOf known due old new o
-said_known known lines due old new e (Done rows reported) h = λ k. h tt ∙ ap (λ l. old.said ++ l) (e k)
-said_known known lines due old new e Words h = h
-said_known known lines due old new e NotThisForm h = h
-said_known known lines due old new e (ReadFault name) h = h
-said_known known lines due old new e (WriteFault name) h = h
-said_known known lines due old new e ConsoleFault h = λ k.
-    let p = h tt in (p.0, p.1 ∙ ap (λ l. old.said ++ take p.0 l) (e k))
-said_known known lines due old new e NoMemory h = (
-  h.0,
-  λ k. let p = h.1 tt in (p.0, p.1 ∙ ap (λ l. old.said ++ take p.0 l) (e k)),
-)
-
--- a complaint says nothing
-said_kept : (known : Type 0) (lines : List ℕ) (was mid now : ConsoleState) → was.memory_refusals ≤ mid.memory_refusals → OnlyComplains mid now → mid.tells ≡ true → (o : Outcome) → SaidOf known lines was mid o → SaidOf known lines was now o
-said_kept known lines was mid now le b t (Done rows reported) h = λ k. b.said t ∙ h k
-said_kept known lines was mid now le b t Words h = b.said t ∙ h
-said_kept known lines was mid now le b t NotThisForm h = b.said t ∙ h
-said_kept known lines was mid now le b t (ReadFault name) h = b.said t ∙ h
-said_kept known lines was mid now le b t (WriteFault name) h = b.said t ∙ h
-said_kept known lines was mid now le b t ConsoleFault h = λ k. let p = h k in (p.0, b.said t ∙ p.1)
-said_kept known lines was mid now le b t NoMemory h = (
-  λ s.
-      let low : was.memory_refusals < 18446744073709551615 = s.0 in
-      let stay : mid.memory_refusals ≡ was.memory_refusals = omega (arith, s.1, le, b.memory_refusals) in
-      b.said t ∙ h.0 (low, stay),
-  λ k. let p = h.1 k in (p.0, b.said t ∙ p.1),
-)
-
--- nothing said is a first part
-pub none_said : (known : Type 0) (lines : List ℕ) (old new : ConsoleState) → new.said ≡ old.said → SaidOf known lines old new NoMemory
-none_said known lines old new e = (λ _. e, λ _. (0, e ∙ sym (append-nil old.said)))
-
-pub said_closed : (known : Type 0) (lines : List ℕ) (was mid now : ConsoleState) → was.memory_refusals ≤ mid.memory_refusals → OnlyComplains mid now → mid.tells ≡ true → (o r : Outcome) → Turns o r → SaidOf known lines was mid o → SaidOf known lines was now r
-said_closed known lines was mid now le b t (Done rows reported) r e h =
-    subst (λ x. SaidOf known lines was now x) (sym e) (said_kept known lines was mid now le b t (Done rows reported) h)
-said_closed known lines was mid now le b t Words r e h =
-    subst (λ x. SaidOf known lines was now x) (sym e) (said_kept known lines was mid now le b t Words h)
-said_closed known lines was mid now le b t NotThisForm r e h =
-    subst (λ x. SaidOf known lines was now x) (sym e) (said_kept known lines was mid now le b t NotThisForm h)
-said_closed known lines was mid now le b t ConsoleFault r e h =
-    subst (λ x. SaidOf known lines was now x) (sym e) (said_kept known lines was mid now le b t ConsoleFault h)
-said_closed known lines was mid now le b t NoMemory r e h =
-    subst (λ x. SaidOf known lines was now x) (sym e) (said_kept known lines was mid now le b t NoMemory h)
-said_closed known lines was mid now le b t (ReadFault name) r (inl e) h =
-    subst (λ x. SaidOf known lines was now x) (sym e) (said_kept known lines was mid now le b t (ReadFault name) h)
-said_closed known lines was mid now le b t (ReadFault name) r (inr e) h =
-    subst (λ x. SaidOf known lines was now x) (sym e) (none_said known lines was now (b.said t ∙ h))
-said_closed known lines was mid now le b t (WriteFault name) r (inl e) h =
-    subst (λ x. SaidOf known lines was now x) (sym e) (said_kept known lines was mid now le b t (WriteFault name) h)
-said_closed known lines was mid now le b t (WriteFault name) r (inr e) h =
-    subst (λ x. SaidOf known lines was now x) (sym e) (none_said known lines was now (b.said t ∙ h))
-
--- the line of an accepted run is the one that is due
-pub lines_are : (v : Verdict) (deed : Deed) → v ≡ inr deed → deed.line ≡ lines_due v
-lines_are v deed e = sym (ap lines_due e)

@@ -1,86 +1,184 @@
 -- Why a command was refused, from the refusals of its steps.
-use Rattle.std.proofs.Common.{◌≡◌, ℕ, List, [], ◌∷◌, Option, Some, None, true, sym, ap, ◌∙◌, subst, refl, arith, Contains}
-use Rattle.std.specs.Prelude.{if◌then◌else◌}
-use Rattle.std.proofs.lemmas.List.Elements.{Contains-append_left}
+use Rattle.std.proofs.Common.{◌≡◌, ◌∙◌, ◌≤◌, ◌+◌, ℕ, List, [], ◌∷◌, Option, Some, true, map, sym, ap, subst, refl, inl, inr, ◌⊎◌, Contains}
 use Rattle.tx_place.specs.Count.{Rose}
 use Rattle.tx_place.specs.Place.{PlaceState, Held}
+use Rattle.tx_pipe.specs.Column.{Schema}
+use Rattle.tx_records.specs.declared.csv_source.CsvSource.{CsvSource}
+use Rattle.tx_script.specs.Linked.{Pipe}
 use Rattle.tuplex_run.specs.Words.{script_of}
-use Rattle.tuplex_run.specs.Due.{verdict, verdict_on, verdict_on_script, verdict_on_form, verdict_on_input, names_read, names_read_on, names_behind, inputs_read, inputs_of, is_within, input_limit}
+use Rattle.tuplex_run.specs.Deed.{Deed}
+use Rattle.tuplex_run.specs.Run.{deed_of}
+use Rattle.tuplex_run.specs.Inputs.{OrRefusal, or_then, inputs_in, header_of, columns_in, inputs_read, input_names}
+use Rattle.tuplex_run.specs.Due.{Verdict, IsVerdict, IsReadBy, pipe_of_script}
 use Rattle.tuplex_run.specs.Ends.{FailedAmong}
-use Rattle.tuplex_run.proofs.Failures.{among_more, among_later, later}
-use Rattle.tuplex_run.specs.Calls.Refusals.{OnlyRead, NoReadFailed, IsReadFault, HasForm, InputRefusal, Refusal}
-use Rattle.tuplex_run.specs.declared.form.Form.{Form}
+use Rattle.tuplex_run.specs.Calls.Accept.{verdict_on_pipe, verdict_on_sources}
+use Rattle.tuplex_run.specs.Calls.Refusals.{OnlyRead, NoReadFailed, IsReadFault, ScriptRefusal, InputsRefusal, ColumnsRefusal, PipeRefusal, RefusalSteps, Refusal}
 use Rattle.tuplex_run.specs.declared.outcome.Outcome.{Outcome}
-use Rattle.tuplex_run.specs.declared.outcome.Outcome.TheVariants.{Done, Words, NotThisForm, ReadFault, WriteFault, ConsoleFault, NoMemory}
+use Rattle.tuplex_run.specs.declared.outcome.Outcome.TheVariants.{Done, Words, Script, Columns, TooLarge, ReadFault, WriteFault, ConsoleFault, NoMemory}
+use Rattle.tuplex_run.proofs.Failures.{among_more, among_later, only_one}
+use Rattle.tuplex_run.proofs.VerdictLemmas.{refused_at_script, at_pipe, on_pipe}
 
-at_form : (held : Held) (script : List ℕ) (form : Form) (file : Option (List ℕ)) → HasForm form script file → verdict_on_script script file held ≡ verdict_on_input form (held form.input)
-at_form held script form None h = absurd h
-at_form held script form (Some bytes) h = ap (λ f. verdict_on_form f held) h
+-- ---- one reading behind another
 
-names_at_form : (held : Held) (script : List ℕ) (form : Form) (file : Option (List ℕ)) → HasForm form script file → names_behind script file held ≡ inputs_read (form.input ∷ []) held
-names_at_form held script form None h = absurd h
-names_at_form held script form (Some bytes) h = ap (λ f. inputs_read (inputs_of f) held) h
-
--- the verdict is that on the input, once the script has a form
-pub verdict_at_form : (words : List (List ℕ)) (held : Held) (script : List ℕ) (form : Form) → script_of words ≡ Some script → HasForm form script (held script) → verdict words held ≡ verdict_on_input form (held form.input)
-verdict_at_form words held script form e h = ap (λ s. verdict_on s held) e ∙ at_form held script form (held script) h
-
-pub names_form : (words : List (List ℕ)) (held : Held) (script : List ℕ) (form : Form) → script_of words ≡ Some script → HasForm form script (held script) → names_read words held ≡ script ∷ inputs_read (form.input ∷ []) held
-names_form words held script form e h = ap (λ s. names_read_on s held) e ∙ ap (λ r. script ∷ r) (names_at_form held script form (held script) h)
-
-later_fault : (name : List ℕ) (old mid new : PlaceState) → OnlyRead old mid → NoReadFailed old mid → IsReadFault name mid new → IsReadFault name old new
+pub later_fault : (name : List ℕ) (old mid new : PlaceState) → OnlyRead old mid → NoReadFailed old mid → IsReadFault name mid new → IsReadFault name old new
 later_fault name old mid new only still h = record {
   rose = subst (λ n. Rose n new.read_faults) still.reads h.rose;
   named = λ t. h.named (only.telling.names_faults ∙ t);
 }
 
-none_later : (old mid new : PlaceState) → OnlyRead old mid → NoReadFailed old mid → NoReadFailed mid new → NoReadFailed old new
+pub none_later : (old mid new : PlaceState) → OnlyRead old mid → NoReadFailed old mid → NoReadFailed mid new → NoReadFailed old new
 none_later old mid new only still h = record {
   reads = h.reads ∙ still.reads;
   named = λ t. h.named (only.telling.names_faults ∙ t) ∙ still.named t;
 }
 
-second : (a b : List ℕ) (cs : List (List ℕ)) → Contains (a ∷ b ∷ cs) b
-second a b cs = (1, omega arith, refl)
+-- ---- how far the steps rose
 
--- an input that is refused refuses the command
-pub input_refused : (words : List (List ℕ)) (old mid new : PlaceState) (script : List ℕ) (form : Form) → script_of words ≡ Some script → OnlyRead old mid → NoReadFailed old mid → (old.tells ≡ true → HasForm form script (old.held script)) → (o : Outcome) → InputRefusal form mid new o → Refusal words old new o
-input_refused words old mid new script form e only still f NotThisForm h = (
-  none_later old mid new only still h.0,
-  λ t.
-      let same : mid.held form.input ≡ old.held form.input = ap (λ (held : Held). held form.input) (only.held t) in
-      verdict_at_form words old.held script form e (f t) ∙ (ap (verdict_on_input form) (sym same) ∙ h.1 (only.telling.tells ∙ t)),
-)
-input_refused words old mid new script form e only still f (ReadFault name) h = (
-  later_fault name old mid new only still h.1,
-  λ t.
-      let P : List ℕ → Type 0 = λ n. Contains (names_read words old.held) n in
-      let Q : List (List ℕ) → Type 0 = λ names. Contains names form.input in
-      subst P (sym h.0) (subst Q (sym (names_form words old.held script form e (f t))) (second script form.input _)),
-)
-input_refused words old mid new script form e only still f NoMemory h = h
-input_refused words old mid new script form e only still f (Done rows reported) h = h
-input_refused words old mid new script form e only still f Words h = absurd h
-input_refused words old mid new script form e only still f (WriteFault name) h = h
-input_refused words old mid new script form e only still f ConsoleFault h = h
+pub no_steps : (known : Type 0) (IsIt : Deed → Type 0) (steps : ℕ) (o : Outcome) → RefusalSteps known IsIt steps steps o
+no_steps known IsIt steps NoMemory = λ k. inl refl
+no_steps known IsIt steps (Done rows reported) = refl
+no_steps known IsIt steps Words = refl
+no_steps known IsIt steps (Script fault) = refl
+no_steps known IsIt steps (Columns fault) = refl
+no_steps known IsIt steps (TooLarge name) = refl
+no_steps known IsIt steps (ReadFault name) = refl
+no_steps known IsIt steps (WriteFault name) = refl
+no_steps known IsIt steps ConsoleFault = refl
 
--- ---- the name of the last call that failed
+-- a deed of one kind is one of another
+deed_of_kind : (P Q : Deed → Type 0) (old new : ℕ) → ((deed : Deed) → P deed → Q deed)
+    → (new ≡ old) ⊎ ((deed : Deed) × P deed × (new ≤ old + deed.evaluations)) → (new ≡ old) ⊎ ((deed : Deed) × Q deed × (new ≤ old + deed.evaluations))
+deed_of_kind P Q old new f (inl e) = inl e
+deed_of_kind P Q old new f (inr h) = inr (h.0, f h.0 h.1, h.2)
 
--- the script is read
+pub steps_of_kind : (known more : Type 0) (P Q : Deed → Type 0) (old new : ℕ) → (more → known) → (more → (deed : Deed) → P deed → Q deed)
+    → (o : Outcome) → RefusalSteps known P old new o → RefusalSteps more Q old new o
+steps_of_kind known more P Q old new f e NoMemory h = λ k. deed_of_kind P Q old new (e k) (h (f k))
+steps_of_kind known more P Q old new f e (Done rows reported) h = h
+steps_of_kind known more P Q old new f e Words h = h
+steps_of_kind known more P Q old new f e (Script fault) h = h
+steps_of_kind known more P Q old new f e (Columns fault) h = h
+steps_of_kind known more P Q old new f e (TooLarge name) h = h
+steps_of_kind known more P Q old new f e (ReadFault name) h = h
+steps_of_kind known more P Q old new f e (WriteFault name) h = h
+steps_of_kind known more P Q old new f e ConsoleFault h = h
+
+-- ---- columns
+
+-- what follows the columns
+abbrev with_columns : List (Option CsvSource) → Pipe → OrRefusal (List Schema) → Verdict
+with_columns sources pipe step = or_then step (λ columns. inr (deed_of sources columns pipe))
+
+pub columns_refused : (sources : List (Option CsvSource)) (pipe : Pipe) (o : Outcome)
+    → ColumnsRefusal (columns_in (map header_of sources) pipe) o → ColumnsRefusal (verdict_on_sources pipe sources) o
+columns_refused sources pipe (Columns fault) h = ap (with_columns sources pipe) h
+columns_refused sources pipe NoMemory h = h
+columns_refused sources pipe (Done rows reported) h = absurd h
+columns_refused sources pipe Words h = absurd h
+columns_refused sources pipe (Script fault) h = absurd h
+columns_refused sources pipe (TooLarge name) h = absurd h
+columns_refused sources pipe (ReadFault name) h = absurd h
+columns_refused sources pipe (WriteFault name) h = absurd h
+columns_refused sources pipe ConsoleFault h = absurd h
+
+-- the columns are there
+pub columns_found : (sources : List (Option CsvSource)) (pipe : Pipe) (columns : List Schema) → columns_in (map header_of sources) pipe ≡ inr columns
+    → verdict_on_sources pipe sources ≡ inr (deed_of sources columns pipe)
+columns_found sources pipe columns h = ap (with_columns sources pipe) h
+
+-- where memory was refused
+pub no_memory_columns : {A : Type 0} (step : OrRefusal A) (o : Outcome) → o ≡ NoMemory → ColumnsRefusal step o
+no_memory_columns step o m = subst (ColumnsRefusal step) (sym m) tt
+
+pub no_memory_steps : (known : Type 0) (IsIt : Deed → Type 0) (old new : ℕ) (deed : Deed) → IsIt deed → new ≤ old + deed.evaluations
+    → (o : Outcome) → o ≡ NoMemory → RefusalSteps known IsIt old new o
+no_memory_steps known IsIt old new deed h most o m = subst (RefusalSteps known IsIt old new) (sym m) (λ k. inr (deed, h, most))
+
+-- ---- inputs
+
+abbrev with_sources : Pipe → OrRefusal (List (Option CsvSource)) → Verdict
+with_sources pipe step = or_then step (verdict_on_sources pipe)
+
+-- the inputs are read
+pub sources_found : (held : Held) (pipe : Pipe) (sources : List (Option CsvSource)) → inputs_in held 1 pipe ≡ inr sources → verdict_on_pipe held pipe ≡ verdict_on_sources pipe sources
+sources_found held pipe sources h = ap (with_sources pipe) h
+
+pub inputs_refused : (pipe : Pipe) (old new : PlaceState) (o : Outcome) → InputsRefusal 1 pipe old new o → PipeRefusal pipe old new o
+inputs_refused pipe old new (TooLarge name) h = (h.0, λ t. ap (with_sources pipe) (h.1 t))
+inputs_refused pipe old new (ReadFault name) h = h
+inputs_refused pipe old new NoMemory h = h
+inputs_refused pipe old new (Done rows reported) h = absurd h
+inputs_refused pipe old new Words h = absurd h
+inputs_refused pipe old new (Script fault) h = absurd h
+inputs_refused pipe old new (Columns fault) h = absurd h
+inputs_refused pipe old new (WriteFault name) h = absurd h
+inputs_refused pipe old new ConsoleFault h = absurd h
+
+pub run_refused : (pipe : Pipe) (old new : PlaceState) (sources : List (Option CsvSource)) → NoReadFailed old new → (old.tells ≡ true → inputs_in old.held 1 pipe ≡ inr sources)
+    → (o : Outcome) → ColumnsRefusal (verdict_on_sources pipe sources) o → PipeRefusal pipe old new o
+run_refused pipe old new sources still e (Columns fault) h = (still, λ t. sources_found old.held pipe sources (e t) ∙ h)
+run_refused pipe old new sources still e NoMemory h = h
+run_refused pipe old new sources still e (Done rows reported) h = absurd h
+run_refused pipe old new sources still e Words h = absurd h
+run_refused pipe old new sources still e (Script fault) h = absurd h
+run_refused pipe old new sources still e (TooLarge name) h = absurd h
+run_refused pipe old new sources still e (ReadFault name) h = absurd h
+run_refused pipe old new sources still e (WriteFault name) h = absurd h
+run_refused pipe old new sources still e ConsoleFault h = absurd h
+
+-- ---- the script
+
+pub script_refused : (words : List (List ℕ)) (old new : PlaceState) (script : List ℕ) → script_of words ≡ Some script
+    → (o : Outcome) → ScriptRefusal script old new o → Refusal words old new o
+script_refused words old new script e (Script fault) h = (h.0, λ t. refused_at_script words old.held script e (Script fault) (h.1 t))
+script_refused words old new script e (ReadFault name) h = (h.1, λ t. (script, e, inl h.0))
+script_refused words old new script e NoMemory h = h
+script_refused words old new script e (Done rows reported) h = absurd h
+script_refused words old new script e Words h = absurd h
+script_refused words old new script e (Columns fault) h = absurd h
+script_refused words old new script e (TooLarge name) h = absurd h
+script_refused words old new script e (WriteFault name) h = absurd h
+script_refused words old new script e ConsoleFault h = absurd h
+
+-- ---- a run behind the script
+
+module _ (words : List (List ℕ)) (old mid new : PlaceState) (script : List ℕ) (pipe : Pipe) (e : script_of words ≡ Some script)
+    (only : OnlyRead old mid) (still : NoReadFailed old mid) (p : old.tells ≡ true → pipe_of_script old.held script (inr pipe)) where
+  -- the verdict on the pipe is that on the words
+  pub on_words : (v : Verdict) → old.tells ≡ true → verdict_on_pipe mid.held pipe ≡ v → IsVerdict words old.held v
+  on_words v t h =
+      let there : verdict_on_pipe old.held pipe ≡ v = subst (λ (held : Held). verdict_on_pipe held pipe ≡ v) (only.held t) h in
+      at_pipe words old.held script e pipe (p t) v (on_pipe old.held pipe v there)
+
+  pub pipe_refused : (o : Outcome) → PipeRefusal pipe mid new o → Refusal words old new o
+  pipe_refused (Columns fault) h = (none_later old mid new only still h.0, λ t. on_words (inl (Columns fault)) t (h.1 (only.telling.tells ∙ t)))
+  pipe_refused (TooLarge name) h = (none_later old mid new only still h.0, λ t. on_words (inl (TooLarge name)) t (h.1 (only.telling.tells ∙ t)))
+  pipe_refused (ReadFault name) h = (
+    later_fault name old mid new only still h.0,
+    λ t.
+        let there : Contains (inputs_read (input_names pipe) old.held) name =
+        subst (λ (held : Held). Contains (inputs_read (input_names pipe) held) name) (only.held t) (h.1 (only.telling.tells ∙ t)) in
+        (script, e, inr (pipe, p t, there)),
+  )
+  pipe_refused NoMemory h = h
+  pipe_refused (Done rows reported) h = absurd h
+  pipe_refused Words h = absurd h
+  pipe_refused (Script fault) h = absurd h
+  pipe_refused (WriteFault name) h = absurd h
+  pipe_refused ConsoleFault h = absurd h
+
+  pub failed_at_inputs : (mid.tells ≡ true → mid.names_faults ≡ true → FailedAmong (Contains (inputs_read (input_names pipe) mid.held)) mid new)
+      → old.tells ≡ true → old.names_faults ≡ true → FailedAmong (IsReadBy words old.held) old new
+  failed_at_inputs f t n =
+      let h : FailedAmong (Contains (inputs_read (input_names pipe) old.held)) mid new =
+      subst (λ (held : Held). FailedAmong (Contains (inputs_read (input_names pipe) held)) mid new) (only.held t)
+      (f (only.telling.tells ∙ t) (only.telling.names_faults ∙ n)) in
+      among_more (Contains (inputs_read (input_names pipe) old.held)) (IsReadBy words old.held) old new (λ name c. (script, e, inr (pipe, p t, c)))
+      (among_later (Contains (inputs_read (input_names pipe) old.held)) old mid new (still.named n) h)
+
+-- ---- the name of the last call that failed, where the script is read
+
 pub failed_at_script : (words : List (List ℕ)) (old new : PlaceState) (script : List ℕ) → script_of words ≡ Some script
-    → FailedAmong (script ∷ []) old new → FailedAmong (names_read words old.held) old new
+    → FailedAmong (Contains (script ∷ [])) old new → FailedAmong (IsReadBy words old.held) old new
 failed_at_script words old new script e h =
-    let behind = names_behind script (old.held script) old.held in
-    let reads : names_read words old.held ≡ script ∷ behind = ap (λ s. names_read_on s old.held) e in
-    subst (λ names. FailedAmong names old new) (sym reads)
-    (among_more (script ∷ []) (script ∷ behind) old new (Contains-append_left (script ∷ []) behind) h)
-
--- and then its input
-pub failed_at_input : (words : List (List ℕ)) (old mid new : PlaceState) (script : List ℕ) (form : Form) → script_of words ≡ Some script
-    → HasForm form script (old.held script) → mid.failed ≡ old.failed → FailedAmong (form.input ∷ []) mid new → FailedAmong (names_read words old.held) old new
-failed_at_input words old mid new script form e f same h =
-    let inputs = inputs_read (form.input ∷ []) old.held in
-    let among : (name : List ℕ) → Contains (form.input ∷ []) name → Contains (script ∷ inputs) name =
-    λ name c. later script inputs name (Contains-append_left (form.input ∷ []) (if is_within input_limit (old.held form.input) then [] else []) name c) in
-    subst (λ names. FailedAmong names old new) (sym (names_form words old.held script form e f))
-    (among_more (form.input ∷ []) (script ∷ inputs) old new among (among_later (form.input ∷ []) old mid new same h))
+    among_more (Contains (script ∷ [])) (IsReadBy words old.held) old new (λ name c. (script, e, inl (only_one script name c))) h

@@ -11,6 +11,8 @@ pub record Deed : Type 0 where
   -- the numbers of its answer
   pub rows : ℕ
   pub reported : ℕ
+  -- how many functions it evaluates before it writes
+  pub evaluations : ℕ
 
 abbrev pub names_of : List (List ℕ × List ℕ) → List (List ℕ)
 names_of [] = []

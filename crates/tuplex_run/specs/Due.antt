@@ -1,114 +1,92 @@
 -- What is due for the words, over the files that a place holds: a refusal, or a deed.
-use Rattle.std.specs.Prelude.{◌⊎◌, ◌++◌, ℕ, List, [], ◌∷◌, Option, Some, None, if◌then◌else◌, Bool, false, nat_le, length}
+use Rattle.std.specs.Prelude.{◌≡◌, ◌⊎◌, ℕ, List, map, Some, Contains}
 use mathlib.Core.Logic.{inl, inr}
 use Rattle.tx_place.specs.Place.{Held}
+use Rattle.tx_names.specs.Scope.{Text}
+use Rattle.tx_script.specs.Linked.{Pipe}
+use Rattle.tx_script.specs.Accepted.{Accepted, Refused}
 use Rattle.tuplex_run.specs.Words.{script_of}
-use Rattle.tuplex_run.specs.Form.{form_of, report_name}
-use Rattle.tuplex_run.specs.Table.{Record, records_of, table_of}
-use Rattle.tuplex_run.specs.Answer.{has_columns, output_of, report_of, row_count, reported_count, line_of}
 use Rattle.tuplex_run.specs.Deed.{Deed, names_of}
-use Rattle.tuplex_run.specs.declared.form.Form.{Form}
+use Rattle.tuplex_run.specs.Run.{deed_of}
+use Rattle.tuplex_run.specs.Inputs.{OrRefusal, or_refuse, bytes_in, inputs_in, header_of, columns_in, input_names, inputs_read}
 use Rattle.tuplex_run.specs.declared.outcome.Outcome.{Outcome}
-use Rattle.tuplex_run.specs.declared.outcome.Outcome.TheVariants.{Done, Words, NotThisForm, ReadFault}
+use Rattle.tuplex_run.specs.declared.outcome.Outcome.TheVariants.{Done, Words, Script}
 
--- ---- the deed of a form on its input
+-- ---- steps: each says of an answer, a refusal or what was asked for, whether it is its own. Which trees a text spells is such a
+-- statement, and no computation
 
-abbrev pub input_limit : ℕ
-input_limit = 67108864
+-- of two steps: a refusal of the first ends the whole, and else the second goes on with what the first gives
+abbrev pub one_then : {A B : Type 0} → (OrRefusal A → Type 0) → (A → OrRefusal B → Type 0) → OrRefusal B → Type 0
+one_then {A} {B} step more answer =
+    ((refusal : Outcome) × step (inl refusal) × (answer ≡ inl refusal)) ⊎ ((x : A) × step (inr x) × more x answer)
 
--- the output and then the report are written, and the console line is said
-abbrev pub deed_of_table : Form → List Record → Deed
-deed_of_table form table = record {
-  writes = (form.output, output_of form table) ∷ (report_name form.output, report_of form table) ∷ [];
-  line = line_of (row_count form table) (reported_count form table);
-  rows = row_count form table;
-  reported = reported_count form table;
-}
+infixl 10 ◌>>=◌
+abbrev pub ◌>>=◌ : {A B : Type 0} → (OrRefusal A → Type 0) → (A → OrRefusal B → Type 0) → OrRefusal B → Type 0
+step >>= more = one_then step more
 
--- both added columns are among the first record's fields
-abbrev pub deed_on_table : Form → Option (List Record) → Option Deed
-deed_on_table form None = None
-deed_on_table form (Some table) = if has_columns form table then Some (deed_of_table form table) else None
+-- a step that is computed
+abbrev pub gives : {A : Type 0} → OrRefusal A → OrRefusal A → Type 0
+gives x answer = answer ≡ x
 
--- what is done on an input, where it has at most 67,108,864 bytes and its records make a table with both columns
-abbrev pub deed_on : Form → List ℕ → Option Deed
-deed_on form bytes = if nat_le (length bytes) input_limit then deed_on_table form (table_of (records_of bytes)) else None
+-- the checks of a script: its pipe, or the first check that fails
+abbrev pub checks : Text → List ℕ → OrRefusal Pipe → Type 0
+checks own bytes (inr pipe) = Accepted own bytes pipe
+checks own bytes (inl (Script fault)) = Refused own bytes fault
+checks own bytes (inl _) = ⊥
 
 -- ---- the verdict, in the order of the outcomes
 
 -- a refusal, or all that the accepted command does
 abbrev pub Verdict : Type 0
-Verdict = Outcome ⊎ Deed
+Verdict = OrRefusal Deed
 
-abbrev pub verdict_on_deed : Option Deed → Verdict
-verdict_on_deed None = inl NotThisForm
-verdict_on_deed (Some deed) = inr deed
+-- the words; the script, read and then checked; its inputs in the order of the operators, each read and then measured; the
+-- columns; and else it is done
+abbrev pub IsVerdict : List (List ℕ) → Held → Verdict → Type 0
+IsVerdict words held = do
+  script ← gives (or_refuse Words (script_of words))
+  bytes ← gives (bytes_in held script)
+  pipe ← checks script bytes
+  sources ← gives (inputs_in held 1 pipe)
+  columns ← gives (columns_in (map header_of sources) pipe)
+  gives (inr (deed_of sources columns pipe))
 
-abbrev pub verdict_on_input : Form → Option (List ℕ) → Verdict
-verdict_on_input form None = inl (ReadFault form.input)
-verdict_on_input form (Some bytes) = verdict_on_deed (deed_on form bytes)
+-- the outcome of a verdict
+abbrev pub outcome_of : Verdict → Outcome
+outcome_of (inl refusal) = refusal
+outcome_of (inr deed) = Done deed.rows deed.reported
 
-abbrev pub verdict_on_form : Option Form → Held → Verdict
-verdict_on_form None held = inl NotThisForm
-verdict_on_form (Some form) held = verdict_on_input form (held form.input)
+-- an outcome that is due
+abbrev pub IsDue : List (List ℕ) → Held → Outcome → Type 0
+IsDue words held outcome = (v : Verdict) × IsVerdict words held v × (outcome ≡ outcome_of v)
 
-abbrev pub verdict_on_script : List ℕ → Option (List ℕ) → Held → Verdict
-verdict_on_script script None held = inl (ReadFault script)
-verdict_on_script script (Some bytes) held = verdict_on_form (form_of script bytes) held
+-- a deed that is due, and of which this holds
+abbrev pub IsDeedWith : List (List ℕ) → Held → (Deed → Type 0) → Type 0
+IsDeedWith words held IsSuch = (deed : Deed) × IsVerdict words held (inr deed) × IsSuch deed
 
-abbrev pub verdict_on : Option (List ℕ) → Held → Verdict
-verdict_on None held = inl Words
-verdict_on (Some script) held = verdict_on_script script (held script) held
+-- the command is accepted with its files
+abbrev pub IsAccepted : List (List ℕ) → Held → Type 0
+IsAccepted words held = IsDeedWith words held (λ deed. Unit {0})
 
--- the words; the script; its form; the input; its table
-abbrev pub verdict : List (List ℕ) → Held → Verdict
-verdict words held = verdict_on (script_of words) held
+-- ---- the names of the files that the command reads or writes
 
--- the outcome that is due
-abbrev pub due : Verdict → Outcome
-due (inl refusal) = refusal
-due (inr deed) = Done deed.rows deed.reported
+-- the pipe of the script of this name, where it is there and accepted
+abbrev pub pipe_of_script : Held → Text → OrRefusal Pipe → Type 0
+pipe_of_script held script = do
+  bytes ← gives (bytes_in held script)
+  checks script bytes
 
-abbrev pub IsAccepted : Verdict → Type 0
-IsAccepted (inl refusal) = ⊥
-IsAccepted (inr deed) = Unit {0}
+-- an input of that pipe, up to the first one that is absent or too large
+abbrev pub IsInputOf : Text → Held → List ℕ → Type 0
+IsInputOf script held name = (pipe : Pipe) × pipe_of_script held script (inr pipe) × Contains (inputs_read (input_names pipe) held) name
 
--- ---- the files that are read, up to the place where the outcome is due
+-- a file that is read up to the place where the outcome is due: the script, or one of its inputs
+abbrev pub IsReadBy : List (List ℕ) → Held → List ℕ → Type 0
+IsReadBy words held name = (script : Text) × (script_of words ≡ Some script) × ((name ≡ script) ⊎ IsInputOf script held name)
 
--- a file that is there and has at most so many bytes
-abbrev pub is_within : ℕ → Option (List ℕ) → Bool
-is_within limit None = false
-is_within limit (Some bytes) = nat_le (length bytes) limit
+-- a file that is written; none where the command is refused
+abbrev pub IsWrittenBy : List (List ℕ) → Held → List ℕ → Type 0
+IsWrittenBy words held name = IsDeedWith words held (λ deed. Contains (names_of deed.writes) name)
 
--- of some inputs those that are read: up to the first one that is absent or too large
-abbrev pub inputs_read : List (List ℕ) → Held → List (List ℕ)
-inputs_read [] held = []
-inputs_read (name ∷ names) held =
-    name ∷ (if is_within input_limit (held name) then inputs_read names held else [])
-
-abbrev pub inputs_of : Option Form → List (List ℕ)
-inputs_of None = []
-inputs_of (Some form) = form.input ∷ []
-
-abbrev pub names_behind : List ℕ → Option (List ℕ) → Held → List (List ℕ)
-names_behind script None held = []
-names_behind script (Some bytes) held = inputs_read (inputs_of (form_of script bytes)) held
-
-abbrev pub names_read_on : Option (List ℕ) → Held → List (List ℕ)
-names_read_on None held = []
-names_read_on (Some script) held = script ∷ names_behind script (held script) held
-
--- the names of the files that the command reads, in this order
-abbrev pub names_read : List (List ℕ) → Held → List (List ℕ)
-names_read words held = names_read_on (script_of words) held
-
--- ---- the files that are written
-
--- the names of the files that the command writes, in this order; none where it is refused
-abbrev pub names_written : Verdict → List (List ℕ)
-names_written (inl refusal) = []
-names_written (inr deed) = names_of deed.writes
-
--- the names of the files that the command reads or writes
-abbrev pub names_touched : List (List ℕ) → Held → List (List ℕ)
-names_touched words held = names_read words held ++ names_written (verdict words held)
+abbrev pub IsTouchedBy : List (List ℕ) → Held → List ℕ → Type 0
+IsTouchedBy words held name = IsReadBy words held name ⊎ IsWrittenBy words held name

@@ -1,16 +1,17 @@
 -- How a command ends: the headline, and what each answer says. `old` and `new` are the moments of the call and of the answer.
-use Rattle.std.specs.Prelude.{◌≡◌, ◌≤◌, ◌⊎◌, ℕ, List, [], ◌++◌, Some, None, true, Contains, take}
-use mathlib.Core.Logic.{inl, inr}
+use Rattle.std.specs.Prelude.{◌≡◌, ◌≤◌, ◌⊎◌, ◌+◌, ℕ, List, ◌++◌, Some, None, true, take}
+use mathlib.Core.Logic.{inr}
 use Rattle.tx_place.specs.Count.{Rose, Still}
-use Rattle.tx_place.specs.Place.{Held, PlaceState}
+use Rattle.tx_place.specs.Place.{Held, PlaceState, KeepsTelling}
 use Rattle.tx_place.specs.Console.{ConsoleState}
+use Rattle.tx_plain.specs.Counts.{Follows}
 use Rattle.tuplex_run.specs.Deed.{Deed, written, IsWrittenPartly}
 use Rattle.tuplex_run.specs.Outside.{Outside}
-use Rattle.tuplex_run.specs.Due.{Verdict, verdict, due, names_read, names_touched, names_written, IsAccepted}
+use Rattle.tuplex_run.specs.Due.{IsVerdict, IsDue, IsDeedWith, IsAccepted, IsReadBy, IsWrittenBy, IsTouchedBy}
 use Rattle.tuplex_run.specs.Status.{status_of}
 use Rattle.tuplex_run.specs.Words.{script_of}
 use Rattle.tuplex_run.specs.declared.outcome.Outcome.{Outcome}
-use Rattle.tuplex_run.specs.declared.outcome.Outcome.TheVariants.{Done, Words, NotThisForm, ReadFault, WriteFault, ConsoleFault, NoMemory}
+use Rattle.tuplex_run.specs.declared.outcome.Outcome.TheVariants.{Done, Words, Script, Columns, TooLarge, ReadFault, WriteFault, ConsoleFault, NoMemory}
 
 -- no count of faults rose, of those that an outcome can come from
 pub record IsFaultless (old new : Outside) : Type 0 where
@@ -29,13 +30,13 @@ pub record EndsPlainly (deed : Deed) (old new : Outside) (outcome : Outcome) : T
 -- THE HEADLINE: a command that is accepted with its files ends plainly, where no call failed and memory was not refused
 abbrev pub RunsPlainly : List (List ℕ) → Outside → Outside → Outcome → Type 0
 RunsPlainly words old new outcome =
-    (deed : Deed) → old.place.tells ≡ true → verdict words old.place.held ≡ inr deed
+    (deed : Deed) → old.place.tells ≡ true → IsVerdict words old.place.held (inr deed)
     → IsFaultless old new → (outcome ≡ NoMemory → ⊥) → EndsPlainly deed old new outcome
 
 -- where no call failed, the answer is the one that is due, or that memory was refused
 abbrev pub IsComplete : List (List ℕ) → Outside → Outside → Outcome → Type 0
 IsComplete words old new outcome =
-    old.place.tells ≡ true → IsFaultless old new → (outcome ≡ NoMemory → ⊥) → outcome ≡ due (verdict words old.place.held)
+    old.place.tells ≡ true → IsFaultless old new → (outcome ≡ NoMemory → ⊥) → IsDue words old.place.held outcome
 
 -- ---- when each answer comes
 
@@ -69,75 +70,111 @@ pub record OnlySayFailed (old new : Outside) : Type 0 where
 
 abbrev pub Cause : List (List ℕ) → Outside → Outside → Outcome → Type 0
 Cause words old new (Done rows reported) =
-    HasNoMoreFaults old new × (old.place.tells ≡ true → due (verdict words old.place.held) ≡ Done rows reported)
+    HasNoMoreFaults old new × (old.place.tells ≡ true → IsDue words old.place.held (Done rows reported))
 Cause words old new Words = HasNoMoreFaults old new × (script_of words ≡ None)
-Cause words old new NotThisForm =
-    HasNoMoreFaults old new × (old.place.tells ≡ true → due (verdict words old.place.held) ≡ NotThisForm)
+Cause words old new (Script fault) =
+    HasNoMoreFaults old new × (old.place.tells ≡ true → IsDue words old.place.held (Script fault))
+Cause words old new (Columns fault) =
+    HasNoMoreFaults old new × (old.place.tells ≡ true → IsDue words old.place.held (Columns fault))
+Cause words old new (TooLarge name) =
+    HasNoMoreFaults old new × (old.place.tells ≡ true → IsDue words old.place.held (TooLarge name))
 Cause words old new (ReadFault name) =
-    OnlyReadFailed name old new × (old.place.tells ≡ true → Contains (names_read words old.place.held) name)
+    OnlyReadFailed name old new × (old.place.tells ≡ true → IsReadBy words old.place.held name)
 Cause words old new (WriteFault name) =
-    OnlyWriteFailed name old new × (old.place.tells ≡ true → Contains (names_written (verdict words old.place.held)) name)
+    OnlyWriteFailed name old new × (old.place.tells ≡ true → IsWrittenBy words old.place.held name)
 Cause words old new ConsoleFault =
-    OnlySayFailed old new × (old.place.tells ≡ true → IsAccepted (verdict words old.place.held))
+    OnlySayFailed old new × (old.place.tells ≡ true → IsAccepted words old.place.held)
 Cause words old new NoMemory = Unit {0}
 
--- the name of the place's last call that failed is as it was, or one of these
-abbrev pub FailedAmong : List (List ℕ) → PlaceState → PlaceState → Type 0
-FailedAmong names old new = (new.failed ≡ old.failed) ⊎ ((name : List ℕ) × (new.failed ≡ Some name) × Contains names name)
+-- the name of the place's last call that failed is as it was, or is such a one
+abbrev pub FailedAmong : (List ℕ → Type 0) → PlaceState → PlaceState → Type 0
+FailedAmong IsOne old new = (new.failed ≡ old.failed) ⊎ ((name : List ℕ) × (new.failed ≡ Some name) × IsOne name)
 
 -- whatever the answer, no call failed but at a file that the command reads or writes
 abbrev pub FailsWithin : List (List ℕ) → PlaceState → PlaceState → Type 0
 FailsWithin words old new =
-    old.tells ≡ true → old.names_faults ≡ true → FailedAmong (names_touched words old.held) old new
+    old.tells ≡ true → old.names_faults ≡ true → FailedAmong (IsTouchedBy words old.held) old new
 
 -- ---- what stands afterwards
 
 -- all that is due was written
-abbrev pub WholeOfVerdict : Verdict → Held → Held → Type 0
-WholeOfVerdict (inl refusal) old new = ⊥
-WholeOfVerdict (inr deed) old new = new ≡ written deed.writes old
+abbrev pub IsWhole : List (List ℕ) → Held → Held → Type 0
+IsWhole words old new = IsDeedWith words old (λ deed. new ≡ written deed.writes old)
 
 -- a prefix of it was
-abbrev pub PartOfVerdict : Verdict → Held → Held → Type 0
-PartOfVerdict (inl refusal) old new = new ≡ old
-PartOfVerdict (inr deed) old new = IsWrittenPartly deed.writes old new
+abbrev pub IsPart : List (List ℕ) → Held → Held → Type 0
+IsPart words old new = IsDeedWith words old (λ deed. IsWrittenPartly deed.writes old new)
 
 -- the files after each answer
-abbrev pub Stands : Verdict → Held → Held → Outcome → Type 0
-Stands v old new (Done rows reported) = WholeOfVerdict v old new
-Stands v old new Words = new ≡ old
-Stands v old new NotThisForm = new ≡ old
-Stands v old new (ReadFault name) = new ≡ old
-Stands v old new (WriteFault name) = PartOfVerdict v old new
-Stands v old new ConsoleFault = WholeOfVerdict v old new
-Stands v old new NoMemory = (new ≡ old) ⊎ PartOfVerdict v old new
+abbrev pub Stands : List (List ℕ) → Held → Held → Outcome → Type 0
+Stands words old new (Done rows reported) = IsWhole words old new
+Stands words old new Words = new ≡ old
+Stands words old new (Script fault) = new ≡ old
+Stands words old new (Columns fault) = new ≡ old
+Stands words old new (TooLarge name) = new ≡ old
+Stands words old new (ReadFault name) = new ≡ old
+Stands words old new (WriteFault name) = IsPart words old new
+Stands words old new ConsoleFault = IsWhole words old new
+Stands words old new NoMemory = (new ≡ old) ⊎ IsPart words old new
 
 -- ---- what was said, and what was complained
 
--- the lines that are due; none at a refusal
-abbrev pub lines_due : Verdict → List ℕ
-lines_due (inl refusal) = []
-lines_due (inr deed) = deed.line
+-- the line that is due was said, in part
+abbrev pub IsSaidPartly : List (List ℕ) → Held → ConsoleState → ConsoleState → Type 0
+IsSaidPartly words held old new = IsDeedWith words held (λ deed. (k : ℕ) × (new.said ≡ old.said ++ take k deed.line))
 
--- what was said of some lines, after each answer; `known` is the premise under which the lines are known
-abbrev pub SaidOf : Type 0 → List ℕ → ConsoleState → ConsoleState → Outcome → Type 0
-SaidOf known lines old new (Done rows reported) = known → new.said ≡ old.said ++ lines
-SaidOf known lines old new Words = new.said ≡ old.said
-SaidOf known lines old new NotThisForm = new.said ≡ old.said
-SaidOf known lines old new (ReadFault name) = new.said ≡ old.said
-SaidOf known lines old new (WriteFault name) = new.said ≡ old.said
-SaidOf known lines old new ConsoleFault = known → (k : ℕ) × (new.said ≡ old.said ++ take k lines)
-SaidOf known lines old new NoMemory =
-    (Still old.memory_refusals new.memory_refusals → new.said ≡ old.said)
-    × (known → (k : ℕ) × (new.said ≡ old.said ++ take k lines))
-
--- what was said of the lines that are due
+-- what was said after each answer
 abbrev pub Said : List (List ℕ) → Outside → Outside → Outcome → Type 0
-Said words old new outcome =
-    SaidOf (old.place.tells ≡ true) (lines_due (verdict words old.place.held)) old.console new.console outcome
+Said words old new (Done rows reported) =
+    old.place.tells ≡ true → IsDeedWith words old.place.held (λ deed. new.console.said ≡ old.console.said ++ deed.line)
+Said words old new Words = new.console.said ≡ old.console.said
+Said words old new (Script fault) = new.console.said ≡ old.console.said
+Said words old new (Columns fault) = new.console.said ≡ old.console.said
+Said words old new (TooLarge name) = new.console.said ≡ old.console.said
+Said words old new (ReadFault name) = new.console.said ≡ old.console.said
+Said words old new (WriteFault name) = new.console.said ≡ old.console.said
+Said words old new ConsoleFault = old.place.tells ≡ true → IsSaidPartly words old.place.held old.console new.console
+Said words old new NoMemory =
+    (Still old.console.memory_refusals new.console.memory_refusals → new.console.said ≡ old.console.said)
+    × (old.place.tells ≡ true → (new.console.said ≡ old.console.said) ⊎ IsSaidPartly words old.place.held old.console new.console)
 
 -- what was complained: the bytes, or after a refusal a prefix of them
 pub record Complained (bytes : List ℕ) (old new : ConsoleState) : Type 0 where
   pub partly : (k : ℕ) × (new.complained ≡ old.complained ++ take k bytes)
   pub whole : Still old.complain_faults new.complain_faults → Still old.memory_refusals new.memory_refusals
       → new.complained ≡ old.complained ++ bytes
+
+-- ---- what was evaluated
+
+-- the steps rose by the evaluations that are due
+abbrev pub AllWereTaken : List (List ℕ) → Outside → Outside → Type 0
+AllWereTaken words old new =
+    old.place.tells ≡ true → IsDeedWith words old.place.held (λ deed. new.steps ≡ old.steps + deed.evaluations)
+
+-- how far the steps rose, each of which is the evaluation of a function
+abbrev pub TakesSteps : List (List ℕ) → Outside → Outside → Outcome → Type 0
+TakesSteps words old new (Done rows reported) = AllWereTaken words old new
+TakesSteps words old new Words = new.steps ≡ old.steps
+TakesSteps words old new (Script fault) = new.steps ≡ old.steps
+TakesSteps words old new (Columns fault) = new.steps ≡ old.steps
+TakesSteps words old new (TooLarge name) = new.steps ≡ old.steps
+TakesSteps words old new (ReadFault name) = new.steps ≡ old.steps
+TakesSteps words old new (WriteFault name) = AllWereTaken words old new
+TakesSteps words old new ConsoleFault = AllWereTaken words old new
+TakesSteps words old new NoMemory =
+    old.place.tells ≡ true
+    → (new.steps ≡ old.steps) ⊎ IsDeedWith words old.place.held (λ deed. new.steps ≤ old.steps + deed.evaluations)
+
+-- ---- all but the complaint
+
+-- `command` are the words
+pub record Ended (command : List (List ℕ)) (old new : Outside) (outcome : Outcome) : Type 0 where
+  pub cause : Cause command old new outcome
+  pub words : script_of command ≡ None → (outcome ≡ Words) ⊎ (outcome ≡ NoMemory)
+  pub complete : IsComplete command old new outcome
+  pub stands : old.place.tells ≡ true → Stands command old.place.held new.place.held outcome
+  pub said : old.console.tells ≡ true → Said command old new outcome
+  pub named : FailsWithin command old.place new.place
+  pub telling : KeepsTelling old.place new.place
+  pub steps : TakesSteps command old new outcome
+  pub meter : Follows old.steps new.steps old.meter new.meter

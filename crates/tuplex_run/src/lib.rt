@@ -2,21 +2,22 @@
 #![tactic(auto)]
 
 mod accept;
-mod answer;
 mod asked;
-mod cell;
 mod closing;
 mod command;
-mod form;
+mod complaint;
+mod header;
+mod input;
+mod laws;
 mod outcome;
 mod reading;
-mod table;
+mod whole;
+mod work;
 mod writing;
 
-pub use cell::printed_cells_read_back;
 pub use command::run_words;
-pub use form::forms_are_read_back;
-pub use outcome::{Outcome, status};
+pub use laws::verdicts_are_one;
+pub use outcome::{ColumnFault, Outcome, status};
 
 /// The words behind the program's own name.
 pub type Words = tx_text::Texts;

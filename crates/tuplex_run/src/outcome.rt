@@ -2,7 +2,15 @@
 ghost use Rattle.std.specs.Prelude.{◌≡◌};
 ghost use Rattle.tuplex_run.specs.Status.{status_of};
 
+use tx_script::ScriptFault;
 use tx_text::PyText;
+
+/// The first column that an operator asks for and that its input does not have.
+#[derive(Debug, Drop)]
+pub struct ColumnFault {
+    pub operator: u32,
+    pub name: PyText,
+}
 
 /// The outcome of a command. Each but `Done` and `ConsoleFault` is complained of, in one line.
 #[derive(Debug, Drop)]
@@ -12,8 +20,12 @@ pub enum Outcome {
     Done { rows: u64, reported: u64 },
     /// The words ask for no command.
     Words,
-    /// The script has not the one form that is read, or its input is no table that this form runs on.
-    NotThisForm,
+    /// The script fails a check.
+    Script(ScriptFault),
+    /// A column that the script names is absent.
+    Columns(ColumnFault),
+    /// The input of this name has more than 67,108,864 bytes.
+    TooLarge { name: PyText },
     /// The script or the input of this name was not read.
     ReadFault { name: PyText },
     /// The output or the report of this name was not written.
@@ -31,10 +43,12 @@ pub fn status(outcome: &Outcome) -> u8
     match outcome {
         Outcome::Done { .. } => 0,
         Outcome::Words => 2,
+        Outcome::Script(_) => 3,
+        Outcome::Columns(_) => 4,
+        Outcome::TooLarge { .. } => 5,
         Outcome::ReadFault { .. } => 6,
         Outcome::WriteFault { .. } => 7,
         Outcome::NoMemory => 8,
         Outcome::ConsoleFault => 9,
-        Outcome::NotThisForm => 10,
     }
 }

@@ -1,14 +1,12 @@
 // Writing the files, and saying the line.
-ghost use Rattle.std.specs.Prelude.{◌≡◌, ◌∷◌, [], true, OnOk, OnErr, IfErr};
+ghost use Rattle.std.specs.Prelude.{◌≡◌, ◌∷◌, [], true, Contains, OnOk, OnErr, IfErr};
 ghost use Rattle.std.specs.Str.{chars};
-ghost use mathlib.Core.Logic.{inr};
 ghost use Rattle.tx_place.specs.Count.{CountsFault};
 ghost use Rattle.tx_place.specs.Place.{KeepsTelling, NamesFault, with_file};
 ghost use Rattle.tuplex_run.specs.Partly.{IsPartly};
-ghost use Rattle.tuplex_run.specs.Calls.Accept.{deed_of};
 ghost use Rattle.tuplex_run.specs.Deed.{names_of, written, IsWrittenPartly};
-ghost use Rattle.tuplex_run.specs.Ends.{FailedAmong, Stands, SaidOf};
-ghost use Rattle.tuplex_run.specs.Calls.Finish.{NoWriteFailed, WriteRefusal, FinishCause, OnlySays};
+ghost use Rattle.tuplex_run.specs.Ends.{FailedAmong};
+ghost use Rattle.tuplex_run.specs.Calls.Finish.{NoWriteFailed, WriteRefusal, FinishCause, FilesLeft, LineLeft, OnlySays};
 
 use crate::Outcome;
 use crate::accept::Accepted;
@@ -59,7 +57,7 @@ fn write_named<P: Place>(
         → OnOk result ((P.state place.new).held ≡ with_file (P.state place.old).held name.now bytes.now) }
     ensures refused { IfErr result (WriteRefusal (name.now ∷ []) (P.state place.old) (P.state place.new)) }
     ensures named { (P.state place.old).names_faults ≡ true
-        → FailedAmong (name.now ∷ []) (P.state place.old) (P.state place.new) }
+        → FailedAmong (Contains (name.now ∷ [])) (P.state place.old) (P.state place.new) }
     ensures partly { (P.state place.old).tells ≡ true
         → OnErr result (IsPartly (P.state place.old).held name.now bytes.now (P.state place.new).held) }
 {
@@ -86,7 +84,7 @@ fn write_all<P: Place>(
         → OnOk result ((P.state place.new).held ≡ written writes.now (P.state place.old).held) }
     ensures refused { IfErr result (WriteRefusal (names_of writes.now) (P.state place.old) (P.state place.new)) }
     ensures named { (P.state place.old).names_faults ≡ true
-        → FailedAmong (names_of writes.now) (P.state place.old) (P.state place.new) }
+        → FailedAmong (Contains (names_of writes.now)) (P.state place.old) (P.state place.new) }
     ensures partly { (P.state place.old).tells ≡ true
         → OnErr result (IsWrittenPartly writes.now (P.state place.old).held (P.state place.new).held) }
 {
@@ -108,15 +106,15 @@ pub(crate) fn finish<P: Place, C: Console>(
 ) -> Outcome
     ensures telling { KeepsTelling (P.state place.old) (P.state place.new) }
     ensures reads { (P.state place.new).read_faults ≡ (P.state place.old).read_faults }
-    ensures cause { FinishCause (deed_of run.now) (P.state place.old) (P.state place.new)
+    ensures cause { FinishCause run.now (P.state place.old) (P.state place.new)
         (C.state console.old) (C.state console.new) result }
     ensures named { (P.state place.old).names_faults ≡ true
-        → FailedAmong (names_of run.now.writes) (P.state place.old) (P.state place.new) }
+        → FailedAmong (Contains (names_of run.now.writes)) (P.state place.old) (P.state place.new) }
     ensures stands { (P.state place.old).tells ≡ true
-        → Stands (inr (deed_of run.now)) (P.state place.old).held (P.state place.new).held result }
+        → FilesLeft run.now.writes (P.state place.old).held (P.state place.new).held result }
     ensures console { OnlySays (C.state console.old) (C.state console.new) }
     ensures said { (C.state console.old).tells ≡ true
-        → SaidOf (Unit {0}) run.now.line (C.state console.old) (C.state console.new) result }
+        → LineLeft run.now.line (C.state console.old) (C.state console.new) result }
 {
     if let Err(refusal) = write_all(alloc, place, run.writes.as_slice()) {
         return refusal;

@@ -64,19 +64,19 @@ run s.txs;s.txs:*;in.csv:a,b/;;;; => 0;;a,b,s/;operator,kind,class,row/;rows 0 e
 run s.txs;s.txs:*;in.csv:a,b;;;; => 0;;a,b,s/;operator,kind,class,row/;rows 0 exceptions 0/;;
 run s.txs;s.txs:*;in.csv:a,b,c/1,2,"q""u,o/te"/;;;; => 0;;a,b,c,s/1,2,"q""u,o/te",3/;operator,kind,class,row/;rows 1 exceptions 0/;;
 run s.txs;s.txs:*;in.csv:a,b,c/1,2,007/1,2,/;;;; => 0;;a,b,c,s/1,2,007,3/1,2,,3/;operator,kind,class,row/;rows 2 exceptions 0/;;
-# inputs that are no table of the form
-run s.txs;s.txs:*;in.csv:;;;; => 10;;-;-;;tuplex: not this form/;
-run s.txs;s.txs:*;in.csv://;;;; => 10;;-;-;;tuplex: not this form/;
-run s.txs;s.txs:*;in.csv:a,b/1/;;;; => 10;;-;-;;tuplex: not this form/;
-run s.txs;s.txs:*;in.csv:a,b/1,2/1,2,3/;;;; => 10;;-;-;;tuplex: not this form/;
-run s.txs;s.txs:*;in.csv:a,b,c/1,2,!/3,4,5/;;;; => 10;;-;-;;tuplex: not this form/;
-run s.txs;s.txs:*;in.csv:$$a,b/1,2/;;;; => 10;;-;-;;tuplex: not this form/;
-run s.txs;s.txs:*;in.csv:a,z/1,2/;;;; => 10;;-;-;;tuplex: not this form/;
-run s.txs;s.txs:*;in.csv:z,b/1,2/;;;; => 10;;-;-;;tuplex: not this form/;
-# a field has at most 65,536 bytes
+# files without a header, records and columns that are not as they should be
+run s.txs;s.txs:*;in.csv:;;;; => 4;;-;-;;tuplex: operator 2: no column a/;
+run s.txs;s.txs:*;in.csv://;;;; => 4;;-;-;;tuplex: operator 2: no column a/;
+run s.txs;s.txs:*;in.csv:a,b/1/;;;; => 0;;a,b,s/;operator,kind,class,row/1,csv,RecordError,1:1/;rows 0 exceptions 1/;;
+run s.txs;s.txs:*;in.csv:a,b/1,2/1,2,3/;;;; => 0;;a,b,s/1,2,3/;operator,kind,class,row/1,csv,RecordError,1:2/;rows 1 exceptions 1/;;
+run s.txs;s.txs:*;in.csv:a,b,c/1,2,!/3,4,5/;;;; => 0;;a,b,c,s/3,4,5,7/;operator,kind,class,row/1,csv,UnicodeDecodeError,1:1/;rows 1 exceptions 1/;;
+run s.txs;s.txs:*;in.csv:$$a,b/1,2/;;;; => 4;;-;-;;tuplex: operator 2: no column a/;
+run s.txs;s.txs:*;in.csv:a,z/1,2/;;;; => 4;;-;-;;tuplex: operator 2: no column b/;
+run s.txs;s.txs:*;in.csv:z,b/1,2/;;;; => 4;;-;-;;tuplex: operator 2: no column a/;
+# fields of more than 65,536 bytes
 run s.txs;s.txs:*;in.csv:a,b,c/1,2,~xxxxx;;;; => 0;;a,b,c,s/1,2,~xxxxx,3/;operator,kind,class,row/;rows 1 exceptions 0/;;
-run s.txs;s.txs:*;in.csv:a,b,c/1,2,~xxxxxx;;;; => 10;;-;-;;tuplex: not this form/;
-# scripts of the form: the new column replaces one of its name or is appended, and a line feed may end the script
+run s.txs;s.txs:*;in.csv:a,b,c/1,2,~xxxxxx;;;; => 0;;a,b,c,s/1,2,~xxxxxx,3/;operator,kind,class,row/;rows 1 exceptions 0/;;
+# the new column replaces one of its name or is appended, and a line feed may end the script
 run s.txs;s.txs:csv("in.csv").withColumn("a", lambda x: x["a"] + x["b"]).tocsv("out.csv");in.csv:a,b/1,2/;;;; => 0;;a,b/3,2/;operator,kind,class,row/;rows 1 exceptions 0/;;
 run s.txs;s.txs:csv("in.csv").withColumn("c", lambda x: x["a"] + x["b"]).tocsv("out.csv");in.csv:a,c,b/1,z,2/;;;; => 0;;a,c,b/1,3,2/;operator,kind,class,row/;rows 1 exceptions 0/;;
 run s.txs;s.txs:csv("in.csv").withColumn("a", lambda x: x["a"] + x["b"]).tocsv("out.csv");in.csv:a,b,a/1,2,9/;;;; => 0;;a,b,a/3,2,9/;operator,kind,class,row/;rows 1 exceptions 0/;;
@@ -84,25 +84,25 @@ run s.txs;s.txs:csv("in.csv").withColumn("s", lambda x: x["a"] + x["a"]).tocsv("
 run s.txs;s.txs:csv("in.csv").withColumn("s", lambda x: x["b"] + x["a"]).tocsv("out.csv");in.csv:a,b/x,y/;;;; => 0;;a,b,s/x,y,yx/;operator,kind,class,row/;rows 1 exceptions 0/;;
 run s.txs;s.txs:csv("in.csv").withColumn("s", lambda x: x["a"] + x["b"]).tocsv("out.csv");in.csv:a,b/1,2/;;;; => 0;;a,b,s/1,2,3/;operator,kind,class,row/;rows 1 exceptions 0/;;
 run s.txs;s.txs:*;in.csv:a,b/1,2/;;;; => 0;;a,b,s/1,2,3/;operator,kind,class,row/;rows 1 exceptions 0/;;
-# a name has at most 64 letters
+# long names
 run s.txs;s.txs:csv("in.csv").withColumn("xxxxxxxxxxxxxxxxxxxxxxxxxxxxxxxxxxxxxxxxxxxxxxxxxxxxxxxxxxxxxxxx", lambda x: x["a"] + x["b"]).tocsv("out.csv");in.csv:a,b/1,2/;;;; => 0;;a,b,xxxxxxxxxxxxxxxxxxxxxxxxxxxxxxxxxxxxxxxxxxxxxxxxxxxxxxxxxxxxxxxx/1,2,3/;operator,kind,class,row/;rows 1 exceptions 0/;;
-run s.txs;s.txs:csv("in.csv").withColumn("xxxxxxxxxxxxxxxxxxxxxxxxxxxxxxxxxxxxxxxxxxxxxxxxxxxxxxxxxxxxxxxxx", lambda x: x["a"] + x["b"]).tocsv("out.csv");in.csv:a,b/1,2/;;;; => 10;;-;-;;tuplex: not this form/;
-# scripts that are not of the form, and some that would write their input or the script
-run s.txs;s.txs:;in.csv:a,b/1,2/;;;; => 10;;-;-;;tuplex: not this form/;
-run s.txs;s.txs:csv("in.csv").withColumn("n", lambda x: int(x["a"])).resolve(ValueError, lambda x: 0).tocsv("out.csv");in.csv:a,b/1,2/;;;; => 10;;-;-;;tuplex: not this form/;
-run s.txs;s.txs:csv("in.csv").withColumn("s", lambda x: x["zz"] + x["b"]).tocsv("out.csv")/;in.csv:a,b/1,2/;;;; => 10;;-;-;;tuplex: not this form/;
-run s.txs;s.txs:csv("in.csv").withColumn("s", lambda x: x["a"] + x["b"]).tocsv("out.csv")//;in.csv:a,b/1,2/;;;; => 10;;-;-;;tuplex: not this form/;
-run s.txs;s.txs:csv("in.csv").withColumn("s", lambda x: x["a"] + x["b"]).tocsv("out.csv") ;in.csv:a,b/1,2/;;;; => 10;;-;-;;tuplex: not this form/;
-run s.txs;s.txs: csv("in.csv").withColumn("s", lambda x: x["a"] + x["b"]).tocsv("out.csv");in.csv:a,b/1,2/;;;; => 10;;-;-;;tuplex: not this form/;
-run s.txs;s.txs:csv("in.csv").withColumn("", lambda x: x["a"] + x["b"]).tocsv("out.csv");in.csv:a,b/1,2/;;;; => 10;;-;-;;tuplex: not this form/;
-run s.txs;s.txs:csv("in.csv").withColumn("s t", lambda x: x["a"] + x["b"]).tocsv("out.csv");in.csv:a,b/1,2/;;;; => 10;;-;-;;tuplex: not this form/;
-run s.txs;s.txs:csv("in.csv").withColumn("s", lambda x: x["a"] - x["b"]).tocsv("out.csv");in.csv:a,b/1,2/;;;; => 10;;-;-;;tuplex: not this form/;
-run s.txs;s.txs:csv("in.csv").withColumn("s", lambda x: x["a"] + x["b"]).tocsv("in.csv");in.csv:a,b/1,2/;;;; => 10;;-;-;;tuplex: not this form/;
-run s.txs;s.txs:csv("o.exceptions.csv").withColumn("s", lambda x: x["a"] + x["b"]).tocsv("o");in.csv:a,b/1,2/;;;; => 10;;-;-;;tuplex: not this form/;
-run s.txs;s.txs:csv("in.csv").withColumn("s", lambda x: x["a"] + x["b"]).tocsv("s.txs");in.csv:a,b/1,2/;;;; => 10;;-;-;;tuplex: not this form/;
+run s.txs;s.txs:csv("in.csv").withColumn("xxxxxxxxxxxxxxxxxxxxxxxxxxxxxxxxxxxxxxxxxxxxxxxxxxxxxxxxxxxxxxxxx", lambda x: x["a"] + x["b"]).tocsv("out.csv");in.csv:a,b/1,2/;;;; => 0;;a,b,xxxxxxxxxxxxxxxxxxxxxxxxxxxxxxxxxxxxxxxxxxxxxxxxxxxxxxxxxxxxxxxxx/1,2,3/;operator,kind,class,row/;rows 1 exceptions 0/;;
+# other scripts, and some that would write their input or the script
+run s.txs;s.txs:;in.csv:a,b/1,2/;;;; => 3;;-;-;;tuplex: script line 0: NoEnd/;
+run s.txs;s.txs:csv("in.csv").withColumn("n", lambda x: int(x["a"])).resolve(ValueError, lambda x: 0).tocsv("out.csv");in.csv:a,b/1,2/;;;; => 0;;a,b,n/1,2,1/;operator,kind,class,row/;rows 1 exceptions 0/;;
+run s.txs;s.txs:csv("in.csv").withColumn("s", lambda x: x["zz"] + x["b"]).tocsv("out.csv")/;in.csv:a,b/1,2/;;;; => 4;;-;-;;tuplex: operator 2: no column zz/;
+run s.txs;s.txs:csv("in.csv").withColumn("s", lambda x: x["a"] + x["b"]).tocsv("out.csv")//;in.csv:a,b/1,2/;;;; => 0;;a,b,s/1,2,3/;operator,kind,class,row/;rows 1 exceptions 0/;;
+run s.txs;s.txs:csv("in.csv").withColumn("s", lambda x: x["a"] + x["b"]).tocsv("out.csv") ;in.csv:a,b/1,2/;;;; => 0;;a,b,s/1,2,3/;operator,kind,class,row/;rows 1 exceptions 0/;;
+run s.txs;s.txs: csv("in.csv").withColumn("s", lambda x: x["a"] + x["b"]).tocsv("out.csv");in.csv:a,b/1,2/;;;; => 3;;-;-;;tuplex: script line 1: Indent/;
+run s.txs;s.txs:csv("in.csv").withColumn("", lambda x: x["a"] + x["b"]).tocsv("out.csv");in.csv:a,b/1,2/;;;; => 0;;a,b,/1,2,3/;operator,kind,class,row/;rows 1 exceptions 0/;;
+run s.txs;s.txs:csv("in.csv").withColumn("s t", lambda x: x["a"] + x["b"]).tocsv("out.csv");in.csv:a,b/1,2/;;;; => 0;;a,b,s t/1,2,3/;operator,kind,class,row/;rows 1 exceptions 0/;;
+run s.txs;s.txs:csv("in.csv").withColumn("s", lambda x: x["a"] - x["b"]).tocsv("out.csv");in.csv:a,b/1,2/;;;; => 0;;a,b,s/1,2,-1/;operator,kind,class,row/;rows 1 exceptions 0/;;
+run s.txs;s.txs:csv("in.csv").withColumn("s", lambda x: x["a"] + x["b"]).tocsv("in.csv");in.csv:a,b/1,2/;;;; => 3;;-;-;;tuplex: script line 1: OutputIsInput/;
+run s.txs;s.txs:csv("o.exceptions.csv").withColumn("s", lambda x: x["a"] + x["b"]).tocsv("o");in.csv:a,b/1,2/;;;; => 3;;-;-;;tuplex: script line 1: OutputIsInput/;
+run s.txs;s.txs:csv("in.csv").withColumn("s", lambda x: x["a"] + x["b"]).tocsv("s.txs");in.csv:a,b/1,2/;;;; => 3;;-;-;;tuplex: script line 1: OutputIsInput/;
 # a script has any name but that of the output or of the report
 run -;-:*;in.csv:a,b/1,2/;;;; => 0;;a,b,s/1,2,3/;operator,kind,class,row/;rows 1 exceptions 0/;;
-run out.csv.exceptions.csv;out.csv.exceptions.csv:*;in.csv:a,b/1,2/;;;; => 10;;-;csv("in.csv").withColumn("s", lambda x: x["a"] + x["b"]).tocsv("out.csv")/;;tuplex: not this form/;
+run out.csv.exceptions.csv;out.csv.exceptions.csv:*;in.csv:a,b/1,2/;;;; => 3;;-;csv("in.csv").withColumn("s", lambda x: x["a"] + x["b"]).tocsv("out.csv")/;;tuplex: script line 1: OutputIsInput/;
 # words that ask for no command
 ;s.txs:*;in.csv:a,b/1,2/;;;; => 2;;-;-;;usage: tuplex run SCRIPT [--sample N] [--order K] [--stats] | check SCRIPT | generate SEED ROWS FILE/;
 run;s.txs:*;in.csv:a,b/1,2/;;;; => 2;;-;-;;usage: tuplex run SCRIPT [--sample N] [--order K] [--stats] | check SCRIPT | generate SEED ROWS FILE/;
@@ -135,7 +135,7 @@ run s.txs;s.txs:*;in.csv:a,b/1,2/3,4/;93;93;1;1 => 9;;a,b,s/1,2,3/3,4,7/;operato
 run s.txs;s.txs:*;in.csv:a,b/1,2/3,4/;1;1;1; => 6;s.txs;-;-;;tuplex: s.txs;
 run s.txs;s.txs:*;in.csv:a,b/1,2/3,4/;;;2; => 0;;a,b,s/1,2,3/3,4,7/;operator,kind,class,row/;rows 2 exceptions 0/;;
 run;s.txs:*;in.csv:a,b/1,2/3,4/;6;6;2; => 2;;-;-;;usage: tuplex run SCRIPT [--sample N] [--order K] [--stats] | check SCRIPT | generate SEED ROWS FILE/;
-run s.txs;s.txs:*;in.csv:x/;6;6;2; => 10;;-;-;;tuplex: not this form/;
+run s.txs;s.txs:*;in.csv:x/;6;6;2; => 4;;-;-;;tuplex: operator 2: no column a/;
 run s.txs;s.txs:*;in.csv:a,b/1,2/3,4/;6;6;2; => 7;out.csv;a,b,s/1,2;-;;tuplex: out.csv: write failed/;
 # files are appended in pieces of 65,536 bytes: two reads of the script, three of the input, a create, and two appends, of which the second fails with half of its 15 bytes
 run s.txs;s.txs:*;in.csv:a,b,c/1,2,~xxxxx;8;8;; => 7;out.csv;a,b,c,s/1,2,~;-;;tuplex: out.csv: write failed/;"#;

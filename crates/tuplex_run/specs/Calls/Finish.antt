@@ -1,11 +1,12 @@
 -- The part that writes, and the part that says.
-use Rattle.std.specs.Prelude.{◌≡◌, ◌≤◌, ◌⊎◌, ℕ, List, Some, true, Contains}
-use Rattle.tx_place.specs.Count.{Rose}
-use Rattle.tx_place.specs.Place.{PlaceState}
+use Rattle.std.specs.Prelude.{◌≡◌, ◌≤◌, ◌⊎◌, ◌++◌, ℕ, List, Some, true, Contains, take}
+use Rattle.tx_place.specs.Count.{Rose, Still}
+use Rattle.tx_place.specs.Place.{Held, PlaceState}
 use Rattle.tx_place.specs.Console.{ConsoleState}
-use Rattle.tuplex_run.specs.Deed.{Deed, names_of}
+use Rattle.tuplex_run.specs.Deed.{names_of, written, IsWrittenPartly}
+use Rattle.tuplex_run.specs.declared.accept.Accepted.{Accepted}
 use Rattle.tuplex_run.specs.declared.outcome.Outcome.{Outcome}
-use Rattle.tuplex_run.specs.declared.outcome.Outcome.TheVariants.{Done, ReadFault, WriteFault, ConsoleFault, NoMemory}
+use Rattle.tuplex_run.specs.declared.outcome.Outcome.TheVariants.{Done, Script, Columns, TooLarge, ReadFault, WriteFault, ConsoleFault, NoMemory}
 
 -- no write failed
 pub record NoWriteFailed (old new : PlaceState) : Type 0 where
@@ -19,16 +20,33 @@ WriteRefusal names old new (WriteFault name) =
 WriteRefusal names old new NoMemory = Unit {0}
 WriteRefusal names old new _ = ⊥
 
--- why a deed ended so
-abbrev pub FinishCause : Deed → PlaceState → PlaceState → ConsoleState → ConsoleState → Outcome → Type 0
-FinishCause deed old new was now (Done rows reported) =
-    (rows ≡ deed.rows) × (reported ≡ deed.reported)
+-- why an accepted run ended so
+abbrev pub FinishCause : Accepted → PlaceState → PlaceState → ConsoleState → ConsoleState → Outcome → Type 0
+FinishCause run old new was now (Done rows reported) =
+    (rows ≡ run.rows) × (reported ≡ run.reported)
     × NoWriteFailed old new × (now.say_faults ≡ was.say_faults)
-FinishCause deed old new was now (WriteFault name) =
-    WriteRefusal (names_of deed.writes) old new (WriteFault name) × (now.say_faults ≡ was.say_faults)
-FinishCause deed old new was now ConsoleFault = NoWriteFailed old new × Rose was.say_faults now.say_faults
-FinishCause deed old new was now NoMemory = Unit {0}
-FinishCause deed old new was now _ = ⊥
+FinishCause run old new was now (WriteFault name) =
+    WriteRefusal (names_of run.writes) old new (WriteFault name) × (now.say_faults ≡ was.say_faults)
+FinishCause run old new was now ConsoleFault = NoWriteFailed old new × Rose was.say_faults now.say_faults
+FinishCause run old new was now NoMemory = Unit {0}
+FinishCause run old new was now _ = ⊥
+
+-- the files of an accepted run
+abbrev pub FilesLeft : List (List ℕ × List ℕ) → Held → Held → Outcome → Type 0
+FilesLeft writes old new (Done rows reported) = new ≡ written writes old
+FilesLeft writes old new (WriteFault name) = IsWrittenPartly writes old new
+FilesLeft writes old new ConsoleFault = new ≡ written writes old
+FilesLeft writes old new NoMemory = IsWrittenPartly writes old new
+FilesLeft writes old new _ = ⊥
+
+-- what it said
+abbrev pub LineLeft : List ℕ → ConsoleState → ConsoleState → Outcome → Type 0
+LineLeft line old new (Done rows reported) = new.said ≡ old.said ++ line
+LineLeft line old new (WriteFault name) = new.said ≡ old.said
+LineLeft line old new ConsoleFault = (k : ℕ) × (new.said ≡ old.said ++ take k line)
+LineLeft line old new NoMemory =
+    (Still old.memory_refusals new.memory_refusals → new.said ≡ old.said) × ((k : ℕ) × (new.said ≡ old.said ++ take k line))
+LineLeft line old new _ = ⊥
 
 -- what the console keeps before a complaint
 pub record OnlySays (old new : ConsoleState) : Type 0 where
@@ -46,6 +64,9 @@ pub record OnlyComplains (old new : ConsoleState) : Type 0 where
 
 -- the outcome after the complaint: the same one, or that the text of the complaint found no memory
 abbrev pub Turns : Outcome → Outcome → Type 0
+Turns (Script fault) result = (result ≡ Script fault) ⊎ (result ≡ NoMemory)
+Turns (Columns fault) result = (result ≡ Columns fault) ⊎ (result ≡ NoMemory)
+Turns (TooLarge name) result = (result ≡ TooLarge name) ⊎ (result ≡ NoMemory)
 Turns (ReadFault name) result = (result ≡ ReadFault name) ⊎ (result ≡ NoMemory)
 Turns (WriteFault name) result = (result ≡ WriteFault name) ⊎ (result ≡ NoMemory)
 Turns outcome result = result ≡ outcome

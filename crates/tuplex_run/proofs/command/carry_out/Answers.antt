@@ -1,29 +1,18 @@
-use Rattle.std.proofs.Common.{◌∙◌}
-use Rattle.tuplex_run.specs.Due.{verdict}
-use Rattle.tuplex_run.specs.Calls.Accept.{deed_of}
-use Rattle.tuplex_run.specs.Ends.{lines_due}
-use Rattle.tuplex_run.proofs.Causes.{finished_cause, failed_at_write}
-use Rattle.tuplex_run.proofs.Complaints.{said_known, lines_are}
+use Rattle.std.proofs.Common.{inl, inr}
+use Rattle.tuplex_run.proofs.Endings.{refused_ended, finished_ended, err_same}
 use Rattle.tuplex_run.proofs.command.carry_out.Goals as goal
 
-pub returns-in-Ok-clause-said : goal.returns-in-Ok-clause-said
-returns-in-Ok-clause-said g c =
-    let was = g.C.Console.state c.args.console.now in
-    let now = g.C.Console.state c.finish.new.console in
-    let v = verdict c.args.words.now (g.P.Place.state c.args.place.now).held in
-    λ t. said_known _ c.in-Ok.run'.line (lines_due v) was now
-    (λ k. lines_are v (deed_of c.in-Ok.run') (c.in-Ok.ensures.accepted k)) c.finish.result (c.finish.ensures.said t)
+pub returns-in-Err-clause-ended : goal.returns-in-Err-clause-ended
+returns-in-Err-clause-ended g c =
+    let e = c.in-Err.ensures in
+    refused_ended c.args.words.now (g.P.Place.state c.args.place.now) (g.P.Place.state c.accept.new.place) (g.C.Console.state c.args.console.now)
+    c.args.steps.now c.accept.new.steps c.args.meter.now c.accept.new.meter e.only c.in-Err.refusal e.refused
+    (λ n. elim (e.unread n) [ inl p ↦ inl (err_same _ _ p) | inr p ↦ inr (err_same _ _ p) ]) e.named e.steps e.counts
 
-pub returns-in-Ok-clause-cause : goal.returns-in-Ok-clause-cause
-returns-in-Ok-clause-cause g c =
+pub returns-in-Ok-clause-ended : goal.returns-in-Ok-clause-ended
+returns-in-Ok-clause-ended g c =
     let e = c.in-Ok.ensures in
-    finished_cause c.args.words.now (g.P.Place.state c.args.place.now) (g.P.Place.state c.accept.new.place) (g.P.Place.state c.finish.new.place)
-    (g.C.Console.state c.args.console.now) (g.C.Console.state c.finish.new.console) (deed_of c.in-Ok.run') e.only e.still c.finish.ensures.reads e.accepted
-    c.finish.result c.finish.ensures.cause
-
-pub returns-in-Ok-clause-named : goal.returns-in-Ok-clause-named
-returns-in-Ok-clause-named g c =
-    let e = c.in-Ok.ensures in
-    λ t n. failed_at_write c.args.words.now (g.P.Place.state c.args.place.now) (g.P.Place.state c.accept.new.place) (g.P.Place.state c.finish.new.place)
-    (g.C.Console.state c.args.console.now) (g.C.Console.state c.finish.new.console) (deed_of c.in-Ok.run') e.only e.still c.finish.ensures.reads e.accepted
-    t n (c.finish.ensures.named (e.only.telling.names_faults ∙ n))
+    let f = c.finish.ensures in
+    finished_ended c.args.words.now (g.P.Place.state c.args.place.now) (g.P.Place.state c.accept.new.place) (g.P.Place.state c.finish.new.place)
+    (g.C.Console.state c.args.console.now) (g.C.Console.state c.finish.new.console) c.in-Ok.run' c.args.steps.now c.accept.new.steps c.args.meter.now c.accept.new.meter
+    e.only e.still f.telling f.reads e.accepted e.counts c.finish.result f.cause e.asked f.stands f.said f.named

@@ -1,0 +1,141 @@
+-- The verdict, step by step, and that there is one.
+use Rattle.std.proofs.Common.{◌≡◌, ◌∙◌, ℕ, List, Option, Some, None, Result, Ok, map, sym, ap, subst, refl, inl, inr, ◌⊎◌}
+use Rattle.tx_place.specs.Place.{Held}
+use Rattle.tx_pipe.specs.Column.{Schema}
+use Rattle.tx_records.specs.declared.csv_source.CsvSource.{CsvSource}
+use Rattle.tx_script.specs.declared.fault.ScriptFault.{ScriptFault}
+use Rattle.tx_script.specs.Linked.{Pipe, linked_script}
+use Rattle.tx_script.specs.Checks.{blocks_in, entries, refusal}
+use Rattle.tx_script.specs.Accepted.{Accepted, Refused}
+use Rattle.tx_script.specs.Laws.{OneReadingLaw}
+use Rattle.tuplex_run.specs.Words.{script_of}
+use Rattle.tuplex_run.specs.Run.{deed_of}
+use Rattle.tuplex_run.specs.Inputs.{OrRefusal, or_then, or_refuse, bytes_in, inputs_in, header_of, columns_in}
+use Rattle.tuplex_run.specs.Due.{◌>>=◌, gives, checks, Verdict, IsVerdict, pipe_of_script}
+use Rattle.tuplex_run.specs.Laws.{OneVerdictLaw}
+use Rattle.tuplex_run.specs.Calls.Accept.{verdict_on_sources, verdict_on_pipe}
+use Rattle.tuplex_run.specs.declared.outcome.Outcome.{Outcome}
+use Rattle.tuplex_run.specs.declared.outcome.Outcome.TheVariants.{Words, Script}
+
+-- ---- answers of steps are told apart
+
+pub refusal_same : {A : Type 0} (a b : Outcome) → ◌≡◌ {A = OrRefusal A} (inl a) (inl b) → a ≡ b
+refusal_same a b p = cc
+
+pub given_same : {A : Type 0} (a b : A) → ◌≡◌ {A = OrRefusal A} (inr a) (inr b) → a ≡ b
+given_same a b p = cc
+
+pub no_refusal : {A : Type 0} (o : Outcome) (x : A) → ◌≡◌ {A = OrRefusal A} (inl o) (inr x) → ⊥
+no_refusal o x p = cc
+
+-- ---- the steps behind each other
+
+abbrev behind_columns : List (Option CsvSource) → Pipe → List Schema → Verdict → Type 0
+behind_columns sources pipe columns = gives (inr (deed_of sources columns pipe))
+
+abbrev behind_inputs : Pipe → List (Option CsvSource) → Verdict → Type 0
+behind_inputs pipe sources = gives (columns_in (map header_of sources) pipe) >>= behind_columns sources pipe
+
+abbrev behind_script : Held → Pipe → Verdict → Type 0
+behind_script held pipe = gives (inputs_in held 1 pipe) >>= behind_inputs pipe
+
+abbrev behind_bytes : Held → List ℕ → List ℕ → Verdict → Type 0
+behind_bytes held script bytes = checks script bytes >>= behind_script held
+
+abbrev behind_words : Held → List ℕ → Verdict → Type 0
+behind_words held script = gives (bytes_in held script) >>= behind_bytes held script
+
+-- no command is asked for
+pub at_no_words : (words : List (List ℕ)) (held : Held) → script_of words ≡ None → IsVerdict words held (inl Words)
+at_no_words words held e = inl (Words, sym (ap (or_refuse Words) e), refl)
+
+module _ (words : List (List ℕ)) (held : Held) (script : List ℕ) (e : script_of words ≡ Some script) where
+  at_script : (v : Verdict) → behind_words held script v → IsVerdict words held v
+  at_script v h = inr (script, sym (ap (or_refuse Words) e), h)
+
+  -- a script that is not read, or that fails a check
+  pub refused_at_script : (o : Outcome) → pipe_of_script held script (inl o) → IsVerdict words held (inl o)
+  refused_at_script o (inl h) = at_script (inl o) (inl (h.0, h.1, ap inl (refusal_same o h.0 h.2)))
+  refused_at_script o (inr h) = at_script (inl o) (inr (h.0, h.1, inl (o, h.2, refl)))
+
+  -- a verdict on the pipe of the script
+  pub at_pipe : (pipe : Pipe) → pipe_of_script held script (inr pipe) → (v : Verdict) → behind_script held pipe v → IsVerdict words held v
+  at_pipe pipe (inl h) v k = absurd (no_refusal h.0 pipe (sym h.2))
+  at_pipe pipe (inr h) v k = at_script v (inr (h.0, h.1, inr (pipe, h.2, k)))
+
+-- ---- what is computed for a pipe is its verdict
+
+on_columns : (sources : List (Option CsvSource)) (pipe : Pipe) (step : OrRefusal (List Schema)) (v : Verdict)
+    → or_then step (λ columns. inr (deed_of sources columns pipe)) ≡ v → (gives step >>= behind_columns sources pipe) v
+on_columns sources pipe (inl o) v h = inl (o, refl, sym h)
+on_columns sources pipe (inr columns) v h = inr (columns, refl, sym h)
+
+on_inputs : (pipe : Pipe) (step : OrRefusal (List (Option CsvSource))) (v : Verdict)
+    → or_then step (verdict_on_sources pipe) ≡ v → (gives step >>= behind_inputs pipe) v
+on_inputs pipe (inl o) v h = inl (o, refl, sym h)
+on_inputs pipe (inr sources) v h = inr (sources, refl, on_columns sources pipe (columns_in (map header_of sources) pipe) v h)
+
+pub on_pipe : (held : Held) (pipe : Pipe) (v : Verdict) → verdict_on_pipe held pipe ≡ v → behind_script held pipe v
+on_pipe held pipe v h = on_inputs pipe (inputs_in held 1 pipe) v h
+
+-- ---- there is one
+
+abbrev IsOne : {A : Type 0} → (OrRefusal A → Type 0) → Type 0
+IsOne {A} step = (r s : OrRefusal A) → step r → step s → r ≡ s
+
+one_given : {A : Type 0} (x : OrRefusal A) → IsOne (gives x)
+one_given x = λ r s a b. a ∙ sym b
+
+one_behind : {A B : Type 0} (step : OrRefusal A → Type 0) (more : A → OrRefusal B → Type 0) → IsOne step → ((x : A) → IsOne (more x))
+    → (r s : OrRefusal B) → (step >>= more) r → (step >>= more) s → r ≡ s
+one_behind step more one ones r s (inl h) (inl k) =
+    h.2 ∙ (ap inl (refusal_same h.0 k.0 (one (inl h.0) (inl k.0) h.1 k.1)) ∙ sym k.2)
+one_behind step more one ones r s (inl h) (inr k) = absurd (no_refusal h.0 k.0 (one (inl h.0) (inr k.0) h.1 k.1))
+one_behind step more one ones r s (inr h) (inl k) = absurd (no_refusal k.0 h.0 (one (inl k.0) (inr h.0) k.1 h.1))
+one_behind step more one ones r s (inr h) (inr k) =
+    let same : h.0 ≡ k.0 = given_same h.0 k.0 (one (inr h.0) (inr k.0) h.1 k.1) in
+    ones k.0 r s (subst (λ x. more x r) same h.2) k.2
+
+ok_same : {T E : Type 0} (a b : T) → ◌≡◌ {A = Result T E} (Ok a) (Ok b) → a ≡ b
+ok_same a b p = cc
+
+some_same : {A : Type 0} (a b : A) → ◌≡◌ {A = Option A} (Some a) (Some b) → a ≡ b
+some_same a b p = cc
+
+none_some : {A : Type 0} (a : A) → ◌≡◌ {A = Option A} None (Some a) → ⊥
+none_some a p = cc
+
+module _ (law : OneReadingLaw) (own bytes : List ℕ) where
+  one_pipe : (p q : Pipe) → Accepted own bytes p → Accepted own bytes q → p ≡ q
+  one_pipe p q a b =
+      let same = law (blocks_in bytes) a.blocks b.blocks None None a.read b.read in
+      ok_same p q (sym a.linked ∙ (ap (λ bs. linked_script (entries bs)) same.0 ∙ b.linked))
+
+  not_both : (p : Pipe) (f : ScriptFault) → Accepted own bytes p → Refused own bytes f → ⊥
+  not_both p f a b =
+      let same = law (blocks_in bytes) a.blocks b.blocks None b.unread a.read b.read in
+      none_some f (sym a.passes ∙ ((λ i. refusal own bytes (same.0 i) (same.1 i)) ∙ b.fails))
+
+  one_fault : (f g : ScriptFault) → Refused own bytes f → Refused own bytes g → f ≡ g
+  one_fault f g a b =
+      let same = law (blocks_in bytes) a.blocks b.blocks a.unread b.unread a.read b.read in
+      some_same f g (sym a.fails ∙ ((λ i. refusal own bytes (same.0 i) (same.1 i)) ∙ b.fails))
+
+  one_check : (r s : OrRefusal Pipe) → checks own bytes r → checks own bytes s → r ≡ s
+  one_check (inr p) (inr q) a b = ap inr (one_pipe p q a b)
+  one_check (inr p) (inl (Script f)) a b = absurd (not_both p f a b)
+  one_check (inr p) (inl _) a b = absurd b
+  one_check (inl (Script f)) (inr q) a b = absurd (not_both q f b a)
+  one_check (inl (Script f)) (inl (Script g)) a b = ap (λ x. inl (Script x)) (one_fault f g a b)
+  one_check (inl (Script f)) (inl _) a b = absurd b
+  one_check (inl _) s a b = absurd a
+
+pub one_verdict : OneReadingLaw → OneVerdictLaw
+one_verdict law = λ words held v w a b.
+    one_behind (gives (or_refuse Words (script_of words))) (behind_words held) (one_given (or_refuse Words (script_of words)))
+    (λ script. one_behind (gives (bytes_in held script)) (behind_bytes held script) (one_given (bytes_in held script))
+    (λ bytes. one_behind (checks script bytes) (behind_script held) (one_check law script bytes)
+    (λ pipe. one_behind (gives (inputs_in held 1 pipe)) (behind_inputs pipe) (one_given (inputs_in held 1 pipe))
+    (λ sources. one_behind (gives (columns_in (map header_of sources) pipe)) (behind_columns sources pipe) (one_given (columns_in (map header_of sources) pipe))
+    (λ columns. one_given (inr (deed_of sources columns pipe)))))))
+    v w a b
