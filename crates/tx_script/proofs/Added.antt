@@ -1,6 +1,5 @@
 -- Names that are added to others, and the files that outputs are held against.
-use Rattle.std.proofs.Common.{◌≡◌, ℕ, Bool, true, false, ◌||◌, if◌then◌else◌, List, [], ◌∷◌, ◌++◌, Option, Some, None, refl, sym, ap, ◌∙◌, subst, append_assoc}
-use Rattle.std.specs.Prelude.{filter_map}
+use Rattle.std.proofs.Common.{◌≡◌, Bool, true, false, ◌||◌, if◌then◌else◌, List, [], ◌∷◌, ◌++◌, Option, Some, None, refl, sym, ap, ◌∙◌, subst}
 use Rattle.std.specs.List.{flat_map, cons_option}
 use Rattle.std.specs.Cmp.Lexicographic.{bytes_decides}
 use Rattle.tx_tree.specs.Words.{same_text}
@@ -11,7 +10,7 @@ use Rattle.tx_script.specs.declared.fault.ScriptFault.{ScriptFault}
 use Rattle.tx_script.specs.declared.fault.ScriptKind.TheVariants as kind
 use Rattle.tx_script.specs.Written.{Link, Entry}
 use Rattle.tx_script.specs.Linked.{at}
-use Rattle.tx_script.specs.Checks.{when, source_in, output_in, report_suffix, overwrites, overwrites_by, overwriting, output_is_input}
+use Rattle.tx_script.specs.Checks.{when, source_in, output_in, report_suffix, overwrites_by, overwriting, output_is_input}
 use Rattle.tx_script.specs.Calls.Files.{sources_in, entry_sources, overwriting_each}
 use Rattle.tx_script.proofs.Reserved.{both_in}
 

@@ -1,5 +1,5 @@
 -- The last link of a chain and the last block of a script.
-use Rattle.std.proofs.Common.{◌≡◌, List, [], ◌∷◌, ◌++◌, Option, Some, None, map, length, take, drop, refl, sym, ap, ◌∙◌}
+use Rattle.std.proofs.Common.{◌≡◌, List, [], ◌∷◌, ◌++◌, Option, Some, None, map, refl, ap, ◌∙◌}
 use Rattle.std.proofs.lemmas.List.{map-append}
 use Rattle.tx_names.specs.Faults.{first_some}
 use Rattle.tx_script.specs.declared.fault.ScriptFault.{ScriptFault}

@@ -1,8 +1,7 @@
 -- Links and entries that are read from the front are those that the definitions pick.
-use Rattle.std.specs.Prelude.{⊤}
-use Rattle.std.proofs.Common.{◌≡◌, ℕ, List, [], ◌∷◌, ◌++◌, map, Option, Some, None, option_map, Result, Ok, Err, refl, sym, ap, ◌∙◌, append_assoc}
+use Rattle.std.proofs.Common.{◌≡◌, List, [], ◌∷◌, ◌++◌, Result, Ok, Err, refl}
 use Rattle.tx_script.specs.declared.fault.ScriptFault.{ScriptFault}
-use Rattle.tx_script.specs.Written.{Part, Link, Entry}
+use Rattle.tx_script.specs.Written.{Link}
 use Rattle.tx_script.specs.Forms.{Place}
 use Rattle.tx_script.specs.Linked.{◌>>=◌}
 use Rattle.tx_script.specs.Calls.Formed.{with_link, formed_behind}

@@ -10,6 +10,10 @@ mod Reserved
 mod Free
 -- Faults of functions.
 mod Told
+-- A def gives the same function with more defs ahead of its use.
+mod LaterDefs
+-- What a def holds is its own, and stays so with more defs ahead.
+mod DefFunctions
 -- The last link of a chain and the last block of a script.
 mod Ends
 -- One link, and then those behind it.

@@ -9,9 +9,9 @@ use Rattle.tx_values.specs.declared.value.Value.TheOpen as v
 use Rattle.tx_values.specs.declared.value.Value as value
 use Rattle.tx_tree.specs.declared.operator.UnaryOp.{UnaryOp}
 use Rattle.tx_tree.specs.declared.operator.UnaryOp.TheVariants as sign
-use Rattle.tx_tree.specs.Tree.{Tree, nil, truth, int, text, name, paren, tuple, bare_tuple, list, dict, comprehension, call, method, index, slice, unary, binary, compare, negation, conjunction, disjunction, conditional, Trees, none, more, ArgTree, lambda, plain}
+use Rattle.tx_tree.specs.Tree.{Tree, nil, truth, int, text, tuple, list, unary, Trees, none, more}
 use Rattle.tx_pipe.specs.Lawful.{is_signed_literal, literal_step, is_literal}
-use Rattle.tx_script.specs.Forms.{integer, number_of, negative, tuple_of, list_of, literal, literals, value_in, ◌>>=◌}
+use Rattle.tx_script.specs.Forms.{integer, number_of, negative, tuple_of, list_of, literal, literals, ◌>>=◌}
 
 abbrev IsGood : Option Value → Type 0
 IsGood None = ⊤

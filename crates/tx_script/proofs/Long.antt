@@ -1,5 +1,5 @@
 -- A script with more bytes than the most is refused for that.
-use Rattle.std.proofs.Common.{◌≡◌, ℕ, ◌<◌, List, [], ◌∷◌, Bool, true, Option, Some, None, length, nat_lt, refl, sym, ap, subst, arith}
+use Rattle.std.proofs.Common.{◌≡◌, ℕ, ◌<◌, List, [], ◌∷◌, true, Option, Some, None, length, nat_lt, sym, ap, subst, arith}
 use Rattle.std.specs.Str.{chars}
 use Rattle.tx_tokens.specs.Tokens.{most_characters, tokens_of}
 use Rattle.tx_parse.specs.Spans.{blocks_of}
@@ -7,7 +7,7 @@ use Rattle.tx_names.specs.Faults.{first_some}
 use Rattle.tx_script.specs.declared.fault.ScriptKind.TheVariants as kind
 use Rattle.tx_script.specs.declared.fault.ScriptFault.{ScriptFault}
 use Rattle.tx_script.specs.Linked.{at}
-use Rattle.tx_script.specs.Checks.{when, first_of, too_long, not_text, token_fault, text_fault, tokens_unless, operator_fault, too_many_operators, too_many_defs, name_fault, handler_place, pipe_use, no_end, output_is_input, entries}
+use Rattle.tx_script.specs.Checks.{when, first_of, too_long, not_text, token_fault, tokens_unless, operator_fault, too_many_operators, too_many_defs, name_fault, handler_place, pipe_use, no_end, output_is_input, entries}
 use Rattle.tx_script.specs.Accepted.{AreRead}
 use Rattle.tx_script.specs.Laws.{LongLaw}
 

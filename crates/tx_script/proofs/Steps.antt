@@ -1,9 +1,8 @@
 -- One link, and then those behind it.
-use Rattle.std.proofs.Common.{◌≡◌, ℕ, List, [], ◌∷◌, length, Result, Ok, Err, refl, sym, ap, ◌∙◌}
+use Rattle.std.proofs.Common.{◌≡◌, ℕ, List, ◌∷◌, length, Result, Ok, Err, refl, sym, ap, ◌∙◌}
 use Rattle.tx_script.specs.declared.fault.ScriptFault.{ScriptFault}
 use Rattle.tx_script.specs.Written.{Part, operator, handler, Link}
-use Rattle.tx_tree.specs.Tree.{BlockTree, block_of}
-use Rattle.tx_tree.specs.declared.block.Block.{Block}
+use Rattle.tx_tree.specs.Tree.{BlockTree}
 use Rattle.tx_names.specs.Scope.{Text}
 use Rattle.tx_names.specs.Function.{Function}
 use Rattle.tx_script.specs.Linked.{◌>>=◌, Ahead, Pipe, State, with_def, with_operator, nodes_by, linked_nodes}

@@ -1,6 +1,6 @@
 -- What stands behind the name of an output in that of its report is ASCII.
 use Rattle.std.proofs.Common.{◌≡◌, true, nat_lt, refl}
-use Rattle.std.specs.Str.{chars, IsAscii}
+use Rattle.std.specs.Str.{chars}
 use Rattle.std.specs.List.{list_all}
 use Rattle.std.proofs.lemmas.Str.{chars-IsAscii}
 use Rattle.std.proofs.lemmas.Str.Ascii.{IsAscii-from_all}

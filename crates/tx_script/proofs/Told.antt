@@ -1,5 +1,5 @@
 -- The first fault of a function is what linking it tells.
-use Rattle.std.proofs.Common.{◌≡◌, ℕ, List, Option, Some, None, Result, Ok, Err, refl, sym, ap, ◌∙◌}
+use Rattle.std.proofs.Common.{◌≡◌, ℕ, List, Option, Some, None, Result, Ok, Err, refl, ap, ◌∙◌}
 use Rattle.tx_tree.specs.Tree.{BlockTree, define, pipeline, alone}
 use Rattle.tx_names.specs.declared.role.Role.{Role}
 use Rattle.tx_names.specs.declared.fault.Fault.{Fault}

@@ -1,6 +1,6 @@
 -- The checks of a script. Each gives its fault at its first place, where it fails; the first check that fails, in the order of
 -- `refusal`, is the refusal.
-use Rattle.std.specs.Prelude.{ℕ, ◌+◌, Bool, true, false, not, ◌&&◌, ◌||◌, ◌==◌, nat_lt, if◌then◌else◌, List, [], ◌∷◌, ◌++◌, map, length, take, Option, Some, None, is_some, option_map, option_to_list, option_and_then, slice_get, find, filter_map, count_by, chars, codes, Result, Ok, Err}
+use Rattle.std.specs.Prelude.{ℕ, ◌+◌, Bool, true, false, not, ◌&&◌, ◌||◌, ◌==◌, nat_lt, List, [], ◌∷◌, ◌++◌, map, length, take, Option, Some, None, is_some, option_map, option_to_list, slice_get, find, filter_map, count_by, chars, codes, Result, Ok, Err}
 use Rattle.std.specs.List.{flat_map}
 use Rattle.std.specs.Str.Lossy.{utf8_valid_len}
 use Rattle.tx_tokens.specs.declared.token.Token.{Token}
@@ -10,7 +10,7 @@ use Rattle.tx_tokens.specs.Lines.{line_feed}
 use Rattle.tx_tokens.specs.Tokens.{Tokens, tokens_of, most_characters}
 use Rattle.tx_tree.specs.declared.target.Word.{Word}
 use Rattle.tx_tree.specs.Words.{same_text}
-use Rattle.tx_tree.specs.Tree.{BlockTree, define, pipeline, alone, ChainTree}
+use Rattle.tx_tree.specs.Tree.{BlockTree, define, pipeline, alone}
 use Rattle.tx_parse.specs.Spans.{blocks_of}
 use Rattle.tx_name_set.specs.NameSet.{is_in}
 use Rattle.tx_names.specs.Scope.{Text}
@@ -18,7 +18,6 @@ use Rattle.tx_names.specs.Faults.{first_some}
 use Rattle.tx_pipe.specs.Pipe.{Operation, join, left_join, Handling, allows, source_file, output_file}
 use Rattle.tx_pipe.specs.Lawful.{most_operators}
 use Rattle.tx_script.specs.declared.fault.ScriptFault.{ScriptFault}
-use Rattle.tx_script.specs.declared.fault.ScriptKind.{ScriptKind}
 use Rattle.tx_script.specs.declared.fault.ScriptKind.TheVariants as kind
 use Rattle.tx_script.specs.Written.{Code, Part, operator, handler, Link, Entry}
 use Rattle.tx_script.specs.Forms.{Place, places_of, entry_of, start_of}

@@ -6,7 +6,7 @@ use Rattle.tx_values.specs.declared.value.Value as value
 use Rattle.tx_tree.specs.declared.target.Word.{Word}
 use Rattle.tx_tree.specs.declared.operator.UnaryOp.{UnaryOp}
 use Rattle.tx_tree.specs.declared.operator.UnaryOp.TheVariants as sign
-use Rattle.tx_tree.specs.Tree.{Tree, nil, truth, int, text, name, tuple, list, unary, Trees, none, more, ArgTree, lambda, plain, ArgTrees, HeadTree, LinkTree, ChainTree, BlockTree, define, pipeline, alone}
+use Rattle.tx_tree.specs.Tree.{Tree, nil, truth, int, text, name, tuple, list, unary, Trees, none, more, ArgTree, lambda, plain, ArgTrees, LinkTree, ChainTree, BlockTree, define, pipeline, alone}
 use Rattle.tx_names.specs.Scope.{Text}
 use Rattle.tx_names.specs.Faults.{first_some}
 use Rattle.tx_names.specs.Named.{with_word}

@@ -1,7 +1,7 @@
 -- What the names of a script stand for, in the order of its tokens: the pipe of the script, or the first name in fault. A def is
 -- linked where it stands, with plain parameters; an operator links its function with what the blocks ahead of it define, in the
 -- role that it gives.
-use Rattle.std.specs.Prelude.{ℕ, Bool, false, not, ◌||◌, if◌then◌else◌, List, [], ◌∷◌, ◌++◌, map, length, Option, Some, None, is_some, option_map, find, slice_get, Result, Ok, Err}
+use Rattle.std.specs.Prelude.{ℕ, Bool, false, ◌||◌, if◌then◌else◌, List, [], ◌∷◌, ◌++◌, map, length, Option, Some, None, is_some, find, slice_get, Result, Ok, Err}
 use Rattle.tx_base.specs.Class.{name_of}
 use Rattle.tx_tree.specs.declared.target.Word.{Word}
 use Rattle.tx_tree.specs.Words.{same_text, builtin_word, walk_word}

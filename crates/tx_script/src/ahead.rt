@@ -1,5 +1,5 @@
 // What the blocks ahead define.
-ghost use Rattle.std.specs.Prelude.{◌≡◌, false, ◌∷◌, ◌++◌, [], Ok, Err, IfOk, OnOk, Option, map, option_map};
+ghost use Rattle.std.specs.Prelude.{◌≡◌, ℕ, false, List, ◌∷◌, ◌++◌, [], Ok, Err, IfOk, OnOk, IfSome, Option, map, option_map};
 ghost use Rattle.std.specs.Option.{option_copied};
 ghost use Rattle.tx_tree.specs.Tree.{block_of};
 ghost use Rattle.tx_name_set.specs.NameSet.{is_in};
@@ -7,27 +7,50 @@ ghost use Rattle.tx_base.specs.Class.{name_of};
 ghost use Rattle.tx_tree.specs.Takes.{is_view};
 ghost use Rattle.tx_tree.specs.Words.{same_text, builtin_word, walk_word};
 ghost use Rattle.tx_names.specs.Named.{builtins, walk_functions};
+ghost use Rattle.tx_names.specs.Scope.{Text};
+ghost use Rattle.tx_names.specs.Function.{Function};
+ghost use Rattle.tx_names.specs.Bind.{function_of, defs_of, bound_block};
 ghost use Rattle.tx_pipe.specs.Verbs.{verb_word, classes};
 ghost use Rattle.tx_script.specs.Forms.{sources};
 ghost use Rattle.tx_script.specs.declared.fault.ScriptFault as told;
 ghost use Rattle.tx_script.specs.Linked as linked;
 ghost use Rattle.tx_script.specs.Calls.View.{word_of};
-ghost use Rattle.tx_script.specs.Calls.Behind.{ahead_of};
+ghost use Rattle.tx_script.specs.Calls.Behind.{block_in, HasFunctions, AreLinked, ahead_of};
 
 use crate::operator::source_at;
 use crate::written::Named;
 use crate::{ScriptError, ScriptFault, ScriptKind};
 use std::alloc::Global;
 use tx_name_set::Names;
-use tx_names::Defs;
+use tx_names::{Bound, Defs, Role};
 use tx_pipe::class_at;
 use tx_text::{PyText, Sequence};
 use tx_tree::{Block, Walk, builtin_named, walk_named};
 
-/// The block of a def.
+/// A def with its functions in the roles in which operators can use it. They are linked once, where the def stands, and
+/// each use shares their code.
 #[derive(Drop)]
 pub(crate) struct DefBlock<'a> {
     pub(crate) block: &'a Block,
+    /// The function whose parameters all take values.
+    pub(crate) of_values: Bound,
+    /// The one whose last parameter takes a row, if the def can be used so.
+    pub(crate) of_row: Option<Bound>,
+}
+
+impl<'a> DefBlock<'a> {
+    /// The function in a role, if it is held.
+    pub(crate) fn function_in(&self, role: Role) -> Option<&Bound>
+        ensures { (defs : List (Text × Function ℕ)) (line : ℕ) → HasFunctions defs self.now → IfSome (option_copied result) (λ f. bound_block defs role line (block_in self.now) ≡ Ok (function_of f)) }
+    {
+        if self.of_values.role() == role {
+            return Some(&self.of_values);
+        }
+        match &self.of_row {
+            Some(function) if function.role() == role => Some(function),
+            _ => None,
+        }
+    }
 }
 
 /// The defs with their functions, and their blocks; the names of the pipelines, and the number of the operator that each
@@ -110,7 +133,8 @@ fn is_def_of(name: &PyText, block: &Block) -> bool
 
 impl<'a> Ahead<'a> {
     pub(crate) fn new(alloc: Global) -> Ahead<'a>
-        ensures { ahead_of result ≡ linked.nothing_ahead }
+        ensures nothing { ahead_of result ≡ linked.nothing_ahead }
+        ensures kept { AreLinked result }
     {
         Ahead {
             defs: Defs::new(alloc),
@@ -120,13 +144,14 @@ impl<'a> Ahead<'a> {
         }
     }
 
-    /// The block of the def of a name.
-    pub(crate) fn def_of(&self, name: &PyText) -> Option<&Block>
-        ensures { option_map block_of (option_copied result) ≡ linked.def_of (ahead_of self.now) name.now }
+    /// The def of a name.
+    pub(crate) fn def_of(&self, name: &PyText) -> Option<&DefBlock<'a>>
+        ensures def { option_map block_in (option_copied result) ≡ linked.def_of (ahead_of self.now) name.now }
+        ensures kept { AreLinked self.now → IfSome (option_copied result) (HasFunctions (defs_of self.now.defs)) }
     {
         for def in self.blocks.as_slice() {
             if is_def_of(name, def.block) {
-                return Some(def.block);
+                return Some(def);
             }
         }
         None

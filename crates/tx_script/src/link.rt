@@ -8,7 +8,7 @@ ghost use Rattle.tx_script.specs.Written as written;
 ghost use Rattle.tx_script.specs.declared.fault.ScriptFault as told;
 ghost use Rattle.tx_script.specs.Linked as linked;
 ghost use Rattle.tx_script.specs.Calls.View.{code_of, form_of, handled_of, word_of};
-ghost use Rattle.tx_script.specs.Calls.Behind.{ahead_of, told_error};
+ghost use Rattle.tx_script.specs.Calls.Behind.{AreLinked, ahead_of, told_error};
 
 use crate::ahead::{Ahead, fault_at};
 use crate::form::copy_text;
@@ -108,14 +108,18 @@ fn link_named(
     line: u32,
     name: &PyText,
 ) -> Result<Bound, ScriptError>
+    requires { AreLinked ahead.now }
     ensures ok { IfOk result (λ f. linked.linked_code (ahead_of ahead.now) role (written.named line name.now) ≡ Ok (function_of f)) }
     ensures fault { (f : told.ScriptFault) → result ≡ Err (ScriptError.Fault f) → linked.linked_code (ahead_of ahead.now) role (written.named line name.now) ≡ Err f }
 {
-    let Some(block) = ahead.def_of(name) else {
+    let Some(def) = ahead.def_of(name) else {
         return Err(fault_at(ScriptKind::Name, line));
     };
-    let role = role_or(role, size_of_def(block))?;
-    link_block(alloc, ahead, role, line, block)
+    let role = role_or(role, size_of_def(def.block))?;
+    match def.function_in(role) {
+        Some(function) => Ok(tx_names::copy(function)?),
+        None => link_block(alloc, ahead, role, line, def.block),
+    }
 }
 
 fn link_written(
@@ -139,6 +143,7 @@ fn link_code(
     role: Option<Role>,
     code: &Code<'_>,
 ) -> Result<Bound, ScriptError>
+    requires { AreLinked ahead.now }
     ensures ok { IfOk result (λ f. linked.linked_code (ahead_of ahead.now) role (code_of code.now) ≡ Ok (function_of f)) }
     ensures fault { (f : told.ScriptFault) → result ≡ Err (ScriptError.Fault f) → linked.linked_code (ahead_of ahead.now) role (code_of code.now) ≡ Err f }
 {
@@ -316,6 +321,7 @@ fn link_map(
     code: &Code<'_>,
     to: &MapTo,
 ) -> Result<Operator, ScriptError>
+    requires { AreLinked ahead.now }
     ensures ok { IfOk result (λ o. linked.linked_operator (ahead_of ahead.now) (map_to (code_of code.now) to.now) ≡ Ok (operator_of o)) }
     ensures fault { (f : told.ScriptFault) → result ≡ Err (ScriptError.Fault f) → linked.linked_operator (ahead_of ahead.now) (map_to (code_of code.now) to.now) ≡ Err f }
 {
@@ -324,6 +330,7 @@ fn link_map(
 }
 
 fn link_filter(alloc: Global, ahead: &Ahead<'_>, code: &Code<'_>) -> Result<Operator, ScriptError>
+    requires { AreLinked ahead.now }
     ensures ok { IfOk result (λ o. linked.linked_operator (ahead_of ahead.now) (filter (code_of code.now)) ≡ Ok (operator_of o)) }
     ensures fault { (f : told.ScriptFault) → result ≡ Err (ScriptError.Fault f) → linked.linked_operator (ahead_of ahead.now) (filter (code_of code.now)) ≡ Err f }
 {
@@ -337,6 +344,7 @@ fn link_with_column(
     name: &PyText,
     code: &Code<'_>,
 ) -> Result<Operator, ScriptError>
+    requires { AreLinked ahead.now }
     ensures ok { IfOk result (λ o. linked.linked_operator (ahead_of ahead.now) (with_column name.now (code_of code.now)) ≡ Ok (operator_of o)) }
     ensures fault { (f : told.ScriptFault) → result ≡ Err (ScriptError.Fault f) → linked.linked_operator (ahead_of ahead.now) (with_column name.now (code_of code.now)) ≡ Err f }
 {
@@ -350,6 +358,7 @@ fn link_map_column(
     name: &PyText,
     code: &Code<'_>,
 ) -> Result<Operator, ScriptError>
+    requires { AreLinked ahead.now }
     ensures ok { IfOk result (λ o. linked.linked_operator (ahead_of ahead.now) (map_column name.now (code_of code.now)) ≡ Ok (operator_of o)) }
     ensures fault { (f : told.ScriptFault) → result ≡ Err (ScriptError.Fault f) → linked.linked_operator (ahead_of ahead.now) (map_column name.now (code_of code.now)) ≡ Err f }
 {
@@ -364,6 +373,7 @@ fn link_aggregate(
     init: &Value,
     name: &PyText,
 ) -> Result<Operator, ScriptError>
+    requires { AreLinked ahead.now }
     ensures ok { IfOk result (λ o. linked.linked_operator (ahead_of ahead.now) (aggregate (code_of code.now) init.now name.now) ≡ Ok (operator_of o)) }
     ensures fault { (f : told.ScriptFault) → result ≡ Err (ScriptError.Fault f) → linked.linked_operator (ahead_of ahead.now) (aggregate (code_of code.now) init.now name.now) ≡ Err f }
 {
@@ -403,6 +413,7 @@ pub(crate) fn link_form(
     ahead: &Ahead<'_>,
     form: &Form<'_>,
 ) -> Result<Operator, ScriptError>
+    requires { AreLinked ahead.now }
     ensures ok { IfOk result (λ o. linked.linked_operator (ahead_of ahead.now) (form_of form.now) ≡ Ok (operator_of o)) }
     ensures fault { (f : told.ScriptFault) → result ≡ Err (ScriptError.Fault f) → linked.linked_operator (ahead_of ahead.now) (form_of form.now) ≡ Err f }
 {
@@ -439,6 +450,7 @@ pub(crate) fn link_handler(
     role: Option<Role>,
     handled: &Handled<'_>,
 ) -> Result<Handler, ScriptError>
+    requires { AreLinked ahead.now }
     ensures ok { IfOk result (λ h. linked.linked_handler (ahead_of ahead.now) role (handled_of handled.now) ≡ Ok (handling_of h)) }
     ensures fault { (f : told.ScriptFault) → result ≡ Err (ScriptError.Fault f) → linked.linked_handler (ahead_of ahead.now) role (handled_of handled.now) ≡ Err f }
 {

@@ -1,5 +1,5 @@
 // The pipe of a script, block by block.
-ghost use Rattle.std.specs.Prelude.{◌≡◌, ◌<◌, ◌+◌, false, drop, Ok, Err, None, Some, Option, map, option_map, length, IfOk, OnOk};
+ghost use Rattle.std.specs.Prelude.{◌≡◌, ◌<◌, ◌+◌, false, drop, Ok, Err, None, Some, Option, map, option_map, length, IfOk, OnOk, IfSome};
 ghost use Rattle.tx_tree.specs.Tree.{block_of, chain_of};
 ghost use Rattle.tx_name_set.specs.NameSet.{is_in};
 ghost use Rattle.tx_names.specs.Bind.{defs_of, function_of, bound_block};
@@ -8,7 +8,7 @@ ghost use Rattle.tx_script.specs.declared.fault.ScriptFault as told;
 ghost use Rattle.tx_script.specs.Forms.{start_of};
 ghost use Rattle.tx_script.specs.Linked as linked;
 ghost use Rattle.tx_script.specs.Calls.View.{form_of, link_of, word_of, entry_view};
-ghost use Rattle.tx_script.specs.Calls.Behind.{ahead_of, with_def_of, with_pipeline_of};
+ghost use Rattle.tx_script.specs.Calls.Behind.{block_in, IsFunctionOf, HasFunctions, AreLinked, ahead_of, with_def_of, with_pipeline_of};
 
 use crate::ScriptError;
 use crate::ahead::{Ahead, DefBlock};
@@ -44,6 +44,7 @@ fn link_handlers(
     role: Option<Role>,
     links: &[Link<'_>],
 ) -> Result<Handlers, ScriptError>
+    requires { AreLinked ahead.now }
     ensures ok { IfOk result (λ hs. linked.linked_handlers (ahead_of ahead.now) role (map link_of links.now) ≡ Ok (map handling_of hs)) }
     ensures fault { (f : told.ScriptFault) → result ≡ Err (ScriptError.Fault f) → linked.linked_handlers (ahead_of ahead.now) role (map link_of links.now) ≡ Err f }
 {
@@ -77,6 +78,7 @@ fn add_operator(
     behind: &[Link<'_>],
     pipe: &mut Pipe,
 ) -> Result<(), ScriptError>
+    requires { AreLinked ahead.now }
     ensures ok { OnOk result (linked.with_operator (ahead_of ahead.now) (pipe_of pipe.old) input line (form_of form.now) (map link_of behind.now) ≡ Ok (pipe_of pipe.new)) }
     ensures fault { (f : told.ScriptFault) → result ≡ Err (ScriptError.Fault f) → linked.with_operator (ahead_of ahead.now) (pipe_of pipe.old) input line (form_of form.now) (map link_of behind.now) ≡ Err f }
 {
@@ -100,6 +102,7 @@ fn add_link(
     behind: &[Link<'_>],
     pipe: &mut Pipe,
 ) -> Result<u32, ScriptError>
+    requires { AreLinked ahead.now }
     ensures ok { IfOk result (λ n. linked.nodes_by (ahead_of ahead.now) (pipe_of pipe.old) input (link_of link.now).line (link_of link.now).part (map link_of behind.now) (λ p end. Ok (p, end)) ≡ Ok (pipe_of pipe.new, n)) }
     ensures fault { (f : told.ScriptFault) → result ≡ Err (ScriptError.Fault f) → linked.nodes_by (ahead_of ahead.now) (pipe_of pipe.old) input (link_of link.now).line (link_of link.now).part (map link_of behind.now) (λ p end. Ok (p, end)) ≡ Err f }
 {
@@ -126,6 +129,7 @@ fn add_links(
     start: u32,
     pipe: &mut Pipe,
 ) -> Result<u32, ScriptError>
+    requires { AreLinked ahead.now }
     ensures ok { IfOk result (λ n. linked.linked_nodes (ahead_of ahead.now) (pipe_of pipe.old) start (map link_of links.now) ≡ Ok (pipe_of pipe.new, n)) }
     ensures fault { (f : told.ScriptFault) → result ≡ Err (ScriptError.Fault f) → linked.linked_nodes (ahead_of ahead.now) (pipe_of pipe.old) start (map link_of links.now) ≡ Err f }
 {
@@ -158,6 +162,7 @@ fn add_chain(
     links: &[Link<'_>],
     pipe: &mut Pipe,
 ) -> Result<u32, ScriptError>
+    requires { AreLinked ahead.now }
     ensures ok { IfOk result (λ n. linked.linked_chain (ahead_of ahead.now) (pipe_of pipe.old) (start_of (chain_of chain.now)) (map link_of links.now) ≡ Ok (pipe_of pipe.new, n)) }
     ensures fault { (f : told.ScriptFault) → result ≡ Err (ScriptError.Fault f) → linked.linked_chain (ahead_of ahead.now) (pipe_of pipe.old) (start_of (chain_of chain.now)) (map link_of links.now) ≡ Err f }
 {
@@ -168,39 +173,79 @@ fn add_chain(
 
 // ---- blocks
 
-// The function of a def, which takes values.
-fn link_def(
+/// The role in which a def of so many parameters takes a row.
+fn row_role(count: usize) -> Option<Role> {
+    match count {
+        1 => Some(Role::OfRow),
+        2 => Some(Role::OfAccRow),
+        _ => None,
+    }
+}
+
+// The function of a def that takes a row. A def that can not be used so is no fault until it is.
+fn link_of_row(
     alloc: Global,
     ahead: &Ahead<'_>,
     line: u32,
     block: &Block,
-) -> Result<Bound, ScriptError>
-    ensures ok { IfOk result (λ f. linked.told (bound_block (defs_of ahead.now.defs) (linked.role_or None (linked.size_of (block_of block.now))) line (block_of block.now)) ≡ Ok (function_of f)) }
+) -> Result<Option<Bound>, NoMemory>
+    ensures { IfOk result (λ o. IfSome o (IsFunctionOf (defs_of ahead.now.defs) (block_of block.now))) }
+{
+    let Some(role) = row_role(size_of_def(block)) else {
+        return Ok(None);
+    };
+    match link_block(alloc, ahead, role, line, block) {
+        Ok(function) => Ok(Some(function)),
+        Err(ScriptError::Fault(_)) => Ok(None),
+        Err(ScriptError::NoMemory) => Err(NoMemory),
+    }
+}
+
+// A def, which as such takes values.
+fn link_def<'a>(
+    alloc: Global,
+    ahead: &Ahead<'_>,
+    line: u32,
+    block: &'a Block,
+) -> Result<DefBlock<'a>, ScriptError>
+    ensures block { IfOk result (λ d. block_in d ≡ block_of block.now) }
+    ensures kept { IfOk result (HasFunctions (defs_of ahead.now.defs)) }
+    ensures ok { IfOk result (λ d. linked.told (bound_block (defs_of ahead.now.defs) (linked.role_or None (linked.size_of (block_of block.now))) line (block_of block.now)) ≡ Ok (function_of d.of_values)) }
     ensures fault { (f : told.ScriptFault) → result ≡ Err (ScriptError.Fault f) → linked.told (bound_block (defs_of ahead.now.defs) (linked.role_or None (linked.size_of (block_of block.now))) line (block_of block.now)) ≡ Err f }
 {
     let role = plain_role(size_of_def(block))?;
-    link_block(alloc, ahead, role, line, block)
+    let of_values = link_block(alloc, ahead, role, line, block)?;
+    let of_row = link_of_row(alloc, ahead, line, block)?;
+    Ok(DefBlock {
+        block,
+        of_values,
+        of_row,
+    })
 }
 
 fn push_def<'a>(
     alloc: Global,
     ahead: &mut Ahead<'a>,
     name: &PyText,
-    function: Bound,
-    block: &'a Block,
+    def: DefBlock<'a>,
 ) -> Result<(), NoMemory>
-    ensures { OnOk result (ahead_of ahead.new ≡ linked.with_def (ahead_of ahead.old) name.now (function_of function) (block_of block.now)) }
+    requires kept { AreLinked ahead.old }
+    requires functions { HasFunctions (defs_of ahead.old.defs) def }
+    ensures with_def { OnOk result (ahead_of ahead.new ≡ linked.with_def (ahead_of ahead.old) name.now (function_of def.entry.of_values) (block_in def.entry)) }
+    ensures kept { OnOk result (AreLinked ahead.new) }
 {
-    let function = Rc::new(alloc, function)?;
+    let function = Rc::new(alloc, tx_names::copy(&def.of_values)?)?;
     let name = copy_text(name)?;
     ahead.defs.push(Def { name, function })?;
-    ahead.blocks.push(DefBlock { block })?;
+    ahead.blocks.push(def)?;
     Ok(())
 }
 
 fn push_pipeline<'a>(ahead: &mut Ahead<'a>, name: &'a PyText, end: u32) -> Result<(), NoMemory>
-    requires { is_in ahead.old.pipelines name.now ≡ false }
-    ensures { OnOk result (ahead_of ahead.new ≡ linked.with_pipeline (ahead_of ahead.old) name.now end) }
+    requires free { is_in ahead.old.pipelines name.now ≡ false }
+    requires kept { AreLinked ahead.old }
+    ensures with_pipeline { OnOk result (ahead_of ahead.new ≡ linked.with_pipeline (ahead_of ahead.old) name.now end) }
+    ensures kept { OnOk result (AreLinked ahead.new) }
 {
     ahead.pipelines.add(name)?;
     ahead.ends.push(end)?;
@@ -215,12 +260,14 @@ fn add_def<'a>(
     name: &PyText,
     block: &'a Block,
 ) -> Result<(), ScriptError>
+    requires { AreLinked ahead.old }
     ensures ok { OnOk result (with_def_of (ahead_of ahead.old) line name.now (block_of block.now) ≡ Ok (ahead_of ahead.new)) }
+    ensures kept { OnOk result (AreLinked ahead.new) }
     ensures fault { (f : told.ScriptFault) → result ≡ Err (ScriptError.Fault f) → with_def_of (ahead_of ahead.old) line name.now (block_of block.now) ≡ Err f }
 {
     ahead.free_at(line, name)?;
-    let function = link_def(alloc, ahead, line, block)?;
-    Ok(push_def(alloc, ahead, name, function, block)?)
+    let def = link_def(alloc, ahead, line, block)?;
+    Ok(push_def(alloc, ahead, name, def)?)
 }
 
 fn add_pipeline<'a>(
@@ -232,7 +279,9 @@ fn add_pipeline<'a>(
     links: &[Link<'_>],
     pipe: &mut Pipe,
 ) -> Result<(), ScriptError>
+    requires { AreLinked ahead.old }
     ensures ok { OnOk result (with_pipeline_of (ahead_of ahead.old) (pipe_of pipe.old) line name.now (start_of (chain_of chain.now)) (map link_of links.now) ≡ Ok (ahead_of ahead.new, pipe_of pipe.new)) }
+    ensures kept { OnOk result (AreLinked ahead.new) }
     ensures fault { (f : told.ScriptFault) → result ≡ Err (ScriptError.Fault f) → with_pipeline_of (ahead_of ahead.old) (pipe_of pipe.old) line name.now (start_of (chain_of chain.now)) (map link_of links.now) ≡ Err f }
 {
     ahead.free_at(line, name)?;
@@ -246,7 +295,9 @@ fn add_entry<'a>(
     entry: &Entry<'a>,
     pipe: &mut Pipe,
 ) -> Result<(), ScriptError>
+    requires { AreLinked ahead.old }
     ensures ok { OnOk result (linked.linked_block (ahead_of ahead.old) (pipe_of pipe.old) (entry_view entry.now).block (entry_view entry.now).links ≡ Ok (ahead_of ahead.new, pipe_of pipe.new)) }
+    ensures kept { OnOk result (AreLinked ahead.new) }
     ensures fault { (f : told.ScriptFault) → result ≡ Err (ScriptError.Fault f) → linked.linked_block (ahead_of ahead.old) (pipe_of pipe.old) (entry_view entry.now).block (entry_view entry.now).links ≡ Err f }
 {
     let links = entry.links.as_slice();

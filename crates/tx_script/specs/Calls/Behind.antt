@@ -1,9 +1,12 @@
 -- What the code holds of the blocks ahead.
-use Rattle.std.specs.Prelude.{ℕ, Bool, false, List, map, Option, Some, None, Result, Ok}
+use Rattle.std.specs.Prelude.{◌≡◌, ℕ, Bool, false, List, map, Option, Some, None, IfSome, Result, Ok}
+use Rattle.std.specs.List.{All}
 use Rattle.tx_tree.specs.declared.target.Word.{Word}
 use Rattle.tx_names.specs.Scope.{Text}
 use Rattle.tx_tree.specs.Tree.{BlockTree, block_of}
-use Rattle.tx_names.specs.Bind.{defs_of, bound_block}
+use Rattle.tx_names.specs.declared.bound.Bound.{Bound}
+use Rattle.tx_names.specs.Function.{Function, role_of}
+use Rattle.tx_names.specs.Bind.{function_of, defs_of, bound_block}
 use Rattle.tx_script.specs.declared.ahead.DefBlock.{DefBlock}
 use Rattle.tx_script.specs.declared.ahead.Ahead as declared
 use Rattle.tx_names.specs.declared.fault.BindError.{BindError}
@@ -20,6 +23,19 @@ block_in d = block_of d.block.now
 
 abbrev pub ahead_of : declared.Ahead → Ahead
 ahead_of a = record { defs = defs_of a.defs; blocks = map block_in a.blocks; pipelines = a.pipelines; ends = a.ends }
+
+-- a function is what linking a def gives in the role that the function has, on any line
+abbrev pub IsFunctionOf : List (Text × Function ℕ) → BlockTree → Bound → Type 0
+IsFunctionOf defs b f = (line : ℕ) → bound_block defs (role_of (function_of f)) line b ≡ Ok (function_of f)
+
+-- the functions that a def holds are its own
+pub record HasFunctions (defs : List (Text × Function ℕ)) (d : DefBlock) : Type 0 where
+  pub of_values : IsFunctionOf defs (block_in d) d.of_values
+  pub of_row : IfSome d.of_row (IsFunctionOf defs (block_in d))
+
+-- and are so with all the defs ahead
+abbrev pub AreLinked : declared.Ahead → Type 0
+AreLinked a = All (HasFunctions (defs_of a.defs)) a.blocks
 
 -- a word names something that passes a test
 abbrev pub is_function : {A : Type 0} → (A → Bool) → Option A → Bool

@@ -1,5 +1,5 @@
 -- How often names are used, by the names that are used at all and those that are used more than once.
-use Rattle.std.specs.Prelude.{◌≡◌, ℕ, nat_lt, List, map, Option, option_to_list, count_by}
+use Rattle.std.specs.Prelude.{◌≡◌, nat_lt, List, map, option_to_list, count_by}
 use Rattle.tx_tree.specs.Words.{same_text}
 use Rattle.tx_tree.specs.Tree.{BlockTree}
 use Rattle.tx_name_set.specs.NameSet.{is_in}

@@ -1,8 +1,7 @@
 -- What the code holds, as a script that is written.
-use Rattle.std.specs.Prelude.{ℕ, List, map, Result, Ok, Err, ◌≡◌, ⊤, Option, Some, None}
+use Rattle.std.specs.Prelude.{map, Result, Ok, Err, ◌≡◌, ⊤, Option, Some, None}
 use Rattle.tx_tree.specs.declared.target.Word.{Word}
 use Rattle.tx_tree.specs.Tree.{tree_of, block_of}
-use Rattle.tx_names.specs.Function.{Function}
 use Rattle.tx_pipe.specs.Pipe.{Operation, csv, map_to, filter, with_column, map_column, select_columns, rename_column, join, left_join, unique, aggregate, to_csv, Handling, resolve, ignore}
 use Rattle.tx_script.specs.declared.fault.ScriptFault.{ScriptFault}
 use Rattle.tx_script.specs.declared.fault.ScriptError.{ScriptError}

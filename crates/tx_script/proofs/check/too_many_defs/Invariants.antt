@@ -1,4 +1,4 @@
-use Rattle.std.proofs.Common.{◌≡◌, map, drop, ◌≤◌}
+use Rattle.std.proofs.Common.{◌≡◌, map, drop}
 use Rattle.std.specs.Prelude.{slice_get, filter_map}
 use Rattle.tx_tree.specs.Tree.{block_of}
 use Rattle.tx_script.specs.Checks.{def_line, most_defs}

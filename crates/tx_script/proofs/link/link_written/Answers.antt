@@ -1,4 +1,4 @@
-use Rattle.std.proofs.Common.{◌≡◌, Ok, Err, IfOk, length, subst, ap, ◌∙◌}
+use Rattle.std.proofs.Common.{◌≡◌, Ok, Err, IfOk, subst, ap, ◌∙◌}
 use Rattle.tx_tree.specs.Tree.{tree_of}
 use Rattle.tx_names.specs.Bind.{defs_of, function_of, bound_lambda}
 use Rattle.tx_script.specs.Linked.{told, role_or}

@@ -1,6 +1,5 @@
 use Rattle.std.proofs.Common.{◌≡◌, Err, map, length, subst, sym}
 use Rattle.tx_tree.specs.Tree.{block_of, body_of, chain_of}
-use Rattle.tx_tree.specs.declared.block.Block.TheVariants as b
 use Rattle.tx_names.specs.declared.role.Role.TheVariants.{Plain}
 use Rattle.tx_names.specs.Bind.{bound_def}
 use Rattle.tx_pipe.specs.Pipe.{pipe_of}

@@ -1,4 +1,4 @@
-use Rattle.std.proofs.Common.{◌+◌, ◌∷◌, map, drop, sym, ap, ◌∙◌}
+use Rattle.std.proofs.Common.{◌∷◌, map, sym, ap, ◌∙◌}
 use Rattle.tx_pipe.specs.Pipe.{pipe_of}
 use Rattle.tx_script.specs.Linked.{linked_nodes}
 use Rattle.tx_script.specs.Calls.View.{link_of}

@@ -1,4 +1,4 @@
-use Rattle.std.proofs.Common.{map, drop, ◌-◌, subst, sym, ap, ◌∙◌, arith}
+use Rattle.std.proofs.Common.{map, drop, subst, sym, ap, ◌∙◌, arith}
 use Rattle.std.specs.List.{flat_map}
 use Rattle.tx_script.specs.Checks.{names_in, pipe_use}
 use Rattle.tx_script.specs.Calls.Counts.{Counts}
