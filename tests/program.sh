@@ -121,6 +121,28 @@ ends 0 '' 'rows 3 exceptions 1\n' run named.txs
 holds named.csv 'order,name,town,amount\n1,Ada,Bern,12\n2,Max,Bonn,30\n3,,,5\n'
 holds named.csv.exceptions.csv 'operator,kind,class,row\n4,mapColumn,ValueError,3:5\n'
 
+# A table that a seed gives, as the README shows it: the same at each run, whatever the sample and the order are.
+example generated
+ends 0 '' 'rows 100000\n' generate 1 100000 g.csv
+wants 'the size' "$(wc -c <g.csv)" 1657196
+wants 'the first row' "$(sed -n 2p g.csv)" '1,574,214,n0'
+ends 0 '' 'rows 90001 exceptions 9999\ninterp 100000 typed 0\n' run generated.txs --stats
+for line in 'rows 90001 exceptions 9999' 'interp 100000 typed 0'; do
+  grep -q "^    $line\$" "$top/README.md" || wants 'the line' 'not in the README' "$line"
+done
+awk -F, 'NR == 1 { print $0 ",total" } NR > 1 && $2 ~ /^[0-9]/ { print $0 "," $2 * $3 }' g.csv >wanted.csv
+awk -F, 'BEGIN { print "operator,kind,class,row" }
+  NR > 1 && $2 == "" { print "2,withColumn,TypeError,1:" NR - 1 }
+  NR > 1 && $2 ~ /^x/ { print "2,withColumn,ValueError,1:" NR - 1 }' g.csv >wanted.report
+same totals.csv wanted.csv
+same totals.csv.exceptions.csv wanted.report
+ends 0 '' 'rows 90001 exceptions 9999\n' run --sample=0 --order 7 generated.txs
+same totals.csv wanted.csv
+same totals.csv.exceptions.csv wanted.report
+rm totals.csv totals.csv.exceptions.csv
+ends 0 '' 'accepted\n' check generated.txs
+wants "the folder" "$(ls -A | tr '\n' ' ')" "g.csv generated.txs wanted.csv wanted.report "
+
 # 100,000 records, of which every seventh raises.
 fresh many-records
 awk 'BEGIN { print "a,b"; for (i = 1; i <= 100000; i++) print (i % 7 ? i : "x") "," i % 1000 }' >in.csv
@@ -140,6 +162,24 @@ keeps
 
 fresh a-word-that-is-no-text
 ends 2 "$usage" '' run $'s\xff'
+keeps
+
+fresh a-sample-that-is-too-large
+ends 2 "$usage" '' run s.txs --sample 10001
+keeps
+
+fresh a-check
+ends 0 '' 'accepted\n' check s.txs
+keeps
+
+fresh a-check-without-its-input
+mv in.csv in
+ends 6 'tuplex: in.csv: read failed\n' '' check s.txs
+mv in in.csv
+keeps
+
+fresh a-table-that-is-not-written
+ends 7 'tuplex: none/g.csv: write failed\n' '' generate 1 3 none/g.csv
 keeps
 
 fresh too-many-words

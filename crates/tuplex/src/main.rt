@@ -5,7 +5,7 @@ ghost use Rattle.std.specs.Prelude.{◌≡◌, ℕ, ◌<◌, true};
 ghost use Rattle.tx_base.specs.declared.meter.Meter.{Meter};
 ghost use Rattle.tuplex_run.specs.Outside.{outside, at_start};
 ghost use Rattle.tuplex_run.specs.Complaint.{complaint};
-ghost use Rattle.tuplex_run.specs.Ends.{RunsPlainly, Ended, Complained};
+ghost use Rattle.tuplex_run.specs.Ends.{RunsPlainly, Ended, Complained, OtherCommands};
 
 use std::alloc::Global;
 use std::env;
@@ -65,12 +65,11 @@ fn run<P: Place, C: Console, L: Ledger>(
     requires name { blank.name ≡ L.name }
     requires parts { blank.parts ≡ L.parts }
     requires some { 0 < L.parts }
-    ensures headline { (taken : ℕ) × (counts : Meter) × RunsPlainly words.now
-        (at_start (P.state place.old) (C.state console.old))
-        (outside (P.state place.new) (C.state console.new) taken counts) result }
-    ensures ended { (taken : ℕ) × (counts : Meter) × Ended words.now
-        (at_start (P.state place.old) (C.state console.old))
-        (outside (P.state place.new) (C.state console.new) taken counts) result }
+    ensures ends { (taken : ℕ) × (counts : Meter)
+        × (let old = at_start (P.state place.old) (C.state console.old) in
+        let new = outside (P.state place.new) (C.state console.new) taken counts in
+        RunsPlainly words.now old new result × Ended words.now old new result
+        × (old.place.tells ≡ true → OtherCommands words.now old new result)) }
     ensures complained { (C.state console.old).tells ≡ true
         → Complained (complaint result) (C.state console.old) (C.state console.new) }
     ensures console { (C.state console.new).tells ≡ (C.state console.old).tells }

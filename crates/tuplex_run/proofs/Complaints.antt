@@ -1,5 +1,5 @@
 -- What was complained, from the parts of a command.
-use Rattle.std.proofs.Common.{◌≡◌, ◌≤◌, ◌<◌, ℕ, List, ◌++◌, length, take, true, sym, ap, ◌∙◌, arith, Result, Ok, Err}
+use Rattle.std.proofs.Common.{◌≡◌, ◌<◌, ℕ, List, ◌++◌, length, take, true, sym, ap, ◌∙◌, arith, Result, Ok, Err}
 use Rattle.std.proofs.Math.Seq.{take-length}
 use Rattle.tx_place.specs.Console.{ConsoleState, Complains}
 use Rattle.tx_place.specs.declared.place.CallError.{CallError}

@@ -1,22 +1,24 @@
 -- How a command ends, from its parts.
-use Rattle.std.proofs.Common.{◌≡◌, ◌∙◌, ◌≤◌, ◌<◌, ◌+◌, ◌-◌, ◌++◌, ℕ, List, [], Option, None, Some, Result, Err, true, take, sym, ap, subst, refl, inl, inr, ◌⊎◌, arith, append-nil, Contains}
-use Rattle.std.specs.Prelude.{IsSome}
+use Rattle.std.proofs.Common.{◌≡◌, ◌∙◌, ◌≤◌, ◌+◌, ◌-◌, ◌++◌, ℕ, List, [], Option, None, Some, Result, Err, true, take, sym, ap, subst, refl, inl, inr, ◌⊎◌, arith, append-nil, Contains}
+use Rattle.std.specs.Prelude.{IsSome, if◌then◌else◌}
 use Rattle.std.proofs.Math.Seq.{take-nil}
+use Rattle.tx_base.specs.Count.{counted}
 use Rattle.tx_base.specs.declared.meter.Meter.{Meter}
 use Rattle.tx_place.specs.Count.{Rose, Still}
 use Rattle.tx_place.specs.Place.{PlaceState, Held, KeepsTelling}
 use Rattle.tx_place.specs.Console.{ConsoleState}
 use Rattle.tx_script.specs.declared.fault.ScriptFault.{ScriptFault}
 use Rattle.tx_plain.specs.Counts.{Follows}
-use Rattle.tuplex_run.specs.Words.{script_of}
+use Rattle.tx_words.specs.Words.{command_of}
+use Rattle.tuplex_run.specs.Commands.{stats_line}
 use Rattle.tuplex_run.specs.Deed.{Deed, names_of, written, IsWrittenPartly}
 use Rattle.tuplex_run.specs.Outside.{Outside, outside}
 use Rattle.tuplex_run.specs.Complaint.{complaint}
 use Rattle.tuplex_run.specs.Status.{status_of}
 use Rattle.tuplex_run.specs.Due.{IsVerdict, outcome_of, IsDeedWith, IsReadBy, IsTouchedBy}
 use Rattle.tuplex_run.specs.Laws.{OneVerdictLaw}
-use Rattle.tuplex_run.specs.Ends.{RunsPlainly, IsComplete, HasNoMoreFaults, Cause, FailedAmong, Stands, Said, Complained, TakesSteps, Ended}
-use Rattle.tuplex_run.specs.Calls.Accept.{as_deed}
+use Rattle.tuplex_run.specs.Ends.{said_of, RunsPlainly, IsComplete, HasNoMoreFaults, Cause, FailedAmong, Stands, IsSaidPartly, Said, Complained, TakesSteps, Ended}
+use Rattle.tuplex_run.specs.Calls.Accept.{as_deed, text_of}
 use Rattle.tuplex_run.specs.Calls.Refusals.{OnlyRead, NoReadFailed, Refusal, RefusalSteps}
 use Rattle.tuplex_run.specs.Calls.Finish.{FinishCause, FilesLeft, LineLeft, OnlySays, OnlyComplains, Turns}
 use Rattle.tuplex_run.specs.declared.accept.Accepted.{Accepted}
@@ -111,7 +113,7 @@ module _ (words : List (List ℕ)) (old new : PlaceState) (was : ConsoleState) (
   refused_steps ConsoleFault h r = absurd h
 
   pub refused_ended : (o : Outcome) → Refusal words old new o
-      → (script_of words ≡ None → (o ≡ Words) ⊎ (o ≡ NoMemory))
+      → (command_of words ≡ None → (o ≡ Words) ⊎ (o ≡ NoMemory))
       → (old.tells ≡ true → old.names_faults ≡ true → FailedAmong (IsReadBy words old.held) old new)
       → RefusalSteps (old.tells ≡ true) (λ deed. IsVerdict words old.held (inr deed)) s s' o
       → Follows s s' m m'
@@ -144,7 +146,8 @@ all_is_most s s' count e = omega (arith, e)
 
 module _ (words : List (List ℕ)) (old mid new : PlaceState) (was now : ConsoleState) (run : Accepted) (s s' : ℕ) (m m' : Meter)
     (only : OnlyRead old mid) (still : NoReadFailed old mid) (telling : KeepsTelling mid new) (reads : new.read_faults ≡ mid.read_faults)
-    (accepted : old.tells ≡ true → IsVerdict words old.held (inr (as_deed run (s' - s)))) (counts : Follows s s' m m') where
+    (accepted : old.tells ≡ true → IsVerdict words old.held (inr (as_deed run (s' - s)))) (counts : Follows s s' m m')
+    (none : m.interp ≡ 0) (never : m.typed ≡ 0) where
   -- the deed that is due
   with_deed : (P : Deed → Type 0) → old.tells ≡ true → P (as_deed run (s' - s)) → IsDeedWith words old.held P
   with_deed P t h = (as_deed run (s' - s), accepted t, h)
@@ -160,11 +163,25 @@ module _ (words : List (List ℕ)) (old mid new : PlaceState) (was now : Console
   finished_stands (TooLarge name) h t = absurd h
   finished_stands (ReadFault name) h t = absurd h
 
-  finished_said : (o : Outcome) → LineLeft run.line was now o → Said words (outside old was s m) (outside new now s' m') o
-  finished_said (Done rows reported) h = λ t. with_deed (λ deed. now.said ≡ was.said ++ deed.line) t h
+  -- what the code says is what the deed says
+  text_said : text_of run m' ≡ said_of (as_deed run (s' - s)) (outside old was s m) (outside new now s' m')
+  text_said =
+      let interp : m'.interp ≡ counted 0 (s' - s) = counts.interp ∙ ap (λ n. counted n (s' - s)) none in
+      let typed : m'.typed ≡ m'.typed - m.typed = omega (arith, never) in
+      λ i. run.line ++ (if run.stats then stats_line (interp i) (typed i) else [])
+
+  said_partly : old.tells ≡ true → (k : ℕ) × (now.said ≡ was.said ++ take k (text_of run m')) → IsSaidPartly words (outside old was s m) (outside new now s' m')
+  said_partly t h =
+      with_deed (λ deed. (k : ℕ) × (now.said ≡ was.said ++ take k (said_of deed (outside old was s m) (outside new now s' m')))) t
+      (h.0, h.1 ∙ ap (λ b. was.said ++ take h.0 b) text_said)
+
+  finished_said : (o : Outcome) → LineLeft (text_of run m') was now o → Said words (outside old was s m) (outside new now s' m') o
+  finished_said (Done rows reported) h = λ t.
+      with_deed (λ deed. now.said ≡ was.said ++ said_of deed (outside old was s m) (outside new now s' m')) t
+      (h ∙ ap (λ b. was.said ++ b) text_said)
   finished_said (WriteFault name) h = h
-  finished_said ConsoleFault h = λ t. with_deed (λ deed. (k : ℕ) × (now.said ≡ was.said ++ take k deed.line)) t h
-  finished_said NoMemory h = (h.0, λ t. inr (with_deed (λ deed. (k : ℕ) × (now.said ≡ was.said ++ take k deed.line)) t h.1))
+  finished_said ConsoleFault h = λ t. said_partly t h
+  finished_said NoMemory h = (h.0, λ t. inr (said_partly t h.1))
   finished_said Words h = absurd h
   finished_said (Script fault) h = absurd h
   finished_said (Columns fault) h = absurd h
@@ -186,16 +203,16 @@ module _ (words : List (List ℕ)) (old mid new : PlaceState) (was now : Console
   finished_steps (TooLarge name) h = absurd h
   finished_steps (ReadFault name) h = absurd h
 
-  pub finished_ended : (o : Outcome) → FinishCause run mid new was now o → IsSome (script_of words)
+  pub finished_ended : (o : Outcome) → FinishCause run mid new was now o → IsSome (command_of words)
       → (mid.tells ≡ true → FilesLeft run.writes mid.held new.held o)
-      → (was.tells ≡ true → LineLeft run.line was now o)
+      → (was.tells ≡ true → LineLeft (text_of run m') was now o)
       → (mid.names_faults ≡ true → FailedAmong (Contains (names_of run.writes)) mid new)
       → Ended words (outside old was s m) (outside new now s' m') o
   finished_ended o h asked files line named =
       let c = finished_cause words old mid new was now run (s' - s) s s' m m' only still reads accepted o h in
       record {
         cause = c;
-        words = λ e. absurd (not_none (script_of words) e asked);
+        words = λ e. absurd (not_none (command_of words) e asked);
         complete = complete_of words (outside old was s m) (outside new now s' m') o c;
         stands = λ t. finished_stands o
             (subst (λ (held : Held). FilesLeft run.writes held new.held o) (only.held t) (files (only.telling.tells ∙ t))) t;
@@ -306,12 +323,11 @@ module _ (words : List (List ℕ)) (old : Outside) (place : PlaceState) (mid now
 
   -- a complaint says nothing
   module _ (same : now.said ≡ mid.said) (refusals : old.console.memory_refusals ≤ mid.memory_refusals) where
-    partly_kept : IsDeedWith words old.place.held (λ deed. (k : ℕ) × (mid.said ≡ old.console.said ++ take k deed.line))
-        → IsDeedWith words old.place.held (λ deed. (k : ℕ) × (now.said ≡ old.console.said ++ take k deed.line))
+    partly_kept : IsSaidPartly words old (outside place mid s' m') → IsSaidPartly words old (outside place now s' m')
     partly_kept h = (h.0, h.1, (h.2.0, same ∙ h.2.1))
 
-    none_or_partly : (mid.said ≡ old.console.said) ⊎ IsDeedWith words old.place.held (λ deed. (k : ℕ) × (mid.said ≡ old.console.said ++ take k deed.line))
-        → (now.said ≡ old.console.said) ⊎ IsDeedWith words old.place.held (λ deed. (k : ℕ) × (now.said ≡ old.console.said ++ take k deed.line))
+    none_or_partly : (mid.said ≡ old.console.said) ⊎ IsSaidPartly words old (outside place mid s' m')
+        → (now.said ≡ old.console.said) ⊎ IsSaidPartly words old (outside place now s' m')
     none_or_partly (inl e) = inl (same ∙ e)
     none_or_partly (inr h) = inr (partly_kept h)
 
@@ -372,7 +388,7 @@ headline_of one words old new o h complained = λ deed t v f n.
       said = λ c.
           let said : Said words old new (Done deed.rows deed.reported) = subst (λ x. Said words old new x) done (h.said c) in
           let what = said t in
-          what.2 ∙ ap (λ d. old.console.said ++ d.line) (it what.0 what.1);
+          what.2 ∙ ap (λ d. old.console.said ++ said_of d old new) (it what.0 what.1);
       complained = λ c.
           let none : Complained [] old.console new.console = subst (λ x. Complained (complaint x) old.console new.console) done (complained c) in
           none.partly.1 ∙ (ap (λ b. old.console.complained ++ b) (take-nil none.partly.0) ∙ append-nil old.console.complained);

@@ -1,4 +1,3 @@
-pub mod Literals
 pub mod Files
 pub mod Failures
 pub mod VerdictLemmas
@@ -10,3 +9,4 @@ pub mod Inputs
 pub mod Endings
 pub mod Complaints
 pub mod Writes
+pub mod Others

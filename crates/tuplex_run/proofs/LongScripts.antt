@@ -1,5 +1,5 @@
 -- A script that is too long is refused for that, whatever its text is.
-use Rattle.std.proofs.Common.{◌≡◌, ◌∙◌, ◌<◌, ℕ, true, List, [], ◌∷◌, Option, Some, None, length, sym, ap, subst, arith}
+use Rattle.std.proofs.Common.{◌≡◌, ◌<◌, ℕ, true, List, [], ◌∷◌, Some, None, length, sym, ap, subst, arith}
 use Rattle.std.specs.Prelude.{nat_lt, chars}
 use Rattle.std.proofs.lemmas.Bool.Decides.{nat_tests}
 use Rattle.tx_tokens.specs.Tokens.{tokens_of}

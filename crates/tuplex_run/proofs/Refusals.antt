@@ -5,18 +5,20 @@ use Rattle.tx_place.specs.Place.{PlaceState, Held}
 use Rattle.tx_pipe.specs.Column.{Schema}
 use Rattle.tx_records.specs.declared.csv_source.CsvSource.{CsvSource}
 use Rattle.tx_script.specs.Linked.{Pipe}
-use Rattle.tuplex_run.specs.Words.{script_of}
+use Rattle.std.specs.Prelude.{option_and_then}
+use Rattle.tx_words.specs.Words.{command_of}
+use Rattle.tx_words.specs.declared.command.Command.{Command}
+use Rattle.tuplex_run.specs.Words.{script_in}
 use Rattle.tuplex_run.specs.Deed.{Deed}
-use Rattle.tuplex_run.specs.Run.{deed_of}
-use Rattle.tuplex_run.specs.Inputs.{OrRefusal, or_then, inputs_in, header_of, columns_in, inputs_read, input_names}
-use Rattle.tuplex_run.specs.Due.{Verdict, IsVerdict, IsReadBy, pipe_of_script}
+use Rattle.tuplex_run.specs.Inputs.{OrRefusal, or_then, inputs_in, header_of, columns_in, Ready, ready, inputs_read, input_names}
+use Rattle.tuplex_run.specs.Due.{on_script, on_command, IsReadFor, IsReadBy, pipe_of_script}
 use Rattle.tuplex_run.specs.Ends.{FailedAmong}
-use Rattle.tuplex_run.specs.Calls.Accept.{verdict_on_pipe, verdict_on_sources}
-use Rattle.tuplex_run.specs.Calls.Refusals.{OnlyRead, NoReadFailed, IsReadFault, ScriptRefusal, InputsRefusal, ColumnsRefusal, PipeRefusal, RefusalSteps, Refusal}
+use Rattle.tuplex_run.specs.Calls.Accept.{ready_on_pipe, ready_on_sources}
+use Rattle.tuplex_run.specs.Calls.Refusals.{OnlyRead, NoReadFailed, IsReadFault, ScriptRefusal, InputsRefusal, ColumnsRefusal, PipeRefusal, PreparedRefusal, CommandRefusal, IsReadIn, RefusalSteps, Refusal}
 use Rattle.tuplex_run.specs.declared.outcome.Outcome.{Outcome}
 use Rattle.tuplex_run.specs.declared.outcome.Outcome.TheVariants.{Done, Words, Script, Columns, TooLarge, ReadFault, WriteFault, ConsoleFault, NoMemory}
 use Rattle.tuplex_run.proofs.Failures.{among_more, among_later, only_one}
-use Rattle.tuplex_run.proofs.VerdictLemmas.{refused_at_script, at_pipe, on_pipe}
+use Rattle.tuplex_run.proofs.VerdictLemmas.{refused_at_script, on_pipe, at_command}
 
 -- ---- one reading behind another
 
@@ -66,11 +68,11 @@ steps_of_kind known more P Q old new f e ConsoleFault h = h
 -- ---- columns
 
 -- what follows the columns
-abbrev with_columns : List (Option CsvSource) → Pipe → OrRefusal (List Schema) → Verdict
-with_columns sources pipe step = or_then step (λ columns. inr (deed_of sources columns pipe))
+abbrev with_columns : List (Option CsvSource) → Pipe → OrRefusal (List Schema) → OrRefusal Ready
+with_columns sources pipe step = or_then step (λ columns. inr (ready pipe sources columns))
 
 pub columns_refused : (sources : List (Option CsvSource)) (pipe : Pipe) (o : Outcome)
-    → ColumnsRefusal (columns_in (map header_of sources) pipe) o → ColumnsRefusal (verdict_on_sources pipe sources) o
+    → ColumnsRefusal (columns_in (map header_of sources) pipe) o → ColumnsRefusal (ready_on_sources pipe sources) o
 columns_refused sources pipe (Columns fault) h = ap (with_columns sources pipe) h
 columns_refused sources pipe NoMemory h = h
 columns_refused sources pipe (Done rows reported) h = absurd h
@@ -83,24 +85,16 @@ columns_refused sources pipe ConsoleFault h = absurd h
 
 -- the columns are there
 pub columns_found : (sources : List (Option CsvSource)) (pipe : Pipe) (columns : List Schema) → columns_in (map header_of sources) pipe ≡ inr columns
-    → verdict_on_sources pipe sources ≡ inr (deed_of sources columns pipe)
+    → ready_on_sources pipe sources ≡ inr (ready pipe sources columns)
 columns_found sources pipe columns h = ap (with_columns sources pipe) h
-
--- where memory was refused
-pub no_memory_columns : {A : Type 0} (step : OrRefusal A) (o : Outcome) → o ≡ NoMemory → ColumnsRefusal step o
-no_memory_columns step o m = subst (ColumnsRefusal step) (sym m) tt
-
-pub no_memory_steps : (known : Type 0) (IsIt : Deed → Type 0) (old new : ℕ) (deed : Deed) → IsIt deed → new ≤ old + deed.evaluations
-    → (o : Outcome) → o ≡ NoMemory → RefusalSteps known IsIt old new o
-no_memory_steps known IsIt old new deed h most o m = subst (RefusalSteps known IsIt old new) (sym m) (λ k. inr (deed, h, most))
 
 -- ---- inputs
 
-abbrev with_sources : Pipe → OrRefusal (List (Option CsvSource)) → Verdict
-with_sources pipe step = or_then step (verdict_on_sources pipe)
+abbrev with_sources : Pipe → OrRefusal (List (Option CsvSource)) → OrRefusal Ready
+with_sources pipe step = or_then step (ready_on_sources pipe)
 
 -- the inputs are read
-pub sources_found : (held : Held) (pipe : Pipe) (sources : List (Option CsvSource)) → inputs_in held 1 pipe ≡ inr sources → verdict_on_pipe held pipe ≡ verdict_on_sources pipe sources
+pub sources_found : (held : Held) (pipe : Pipe) (sources : List (Option CsvSource)) → inputs_in held 1 pipe ≡ inr sources → ready_on_pipe held pipe ≡ ready_on_sources pipe sources
 sources_found held pipe sources h = ap (with_sources pipe) h
 
 pub inputs_refused : (pipe : Pipe) (old new : PlaceState) (o : Outcome) → InputsRefusal 1 pipe old new o → PipeRefusal pipe old new o
@@ -115,7 +109,7 @@ inputs_refused pipe old new (WriteFault name) h = absurd h
 inputs_refused pipe old new ConsoleFault h = absurd h
 
 pub run_refused : (pipe : Pipe) (old new : PlaceState) (sources : List (Option CsvSource)) → NoReadFailed old new → (old.tells ≡ true → inputs_in old.held 1 pipe ≡ inr sources)
-    → (o : Outcome) → ColumnsRefusal (verdict_on_sources pipe sources) o → PipeRefusal pipe old new o
+    → (o : Outcome) → ColumnsRefusal (ready_on_sources pipe sources) o → PipeRefusal pipe old new o
 run_refused pipe old new sources still e (Columns fault) h = (still, λ t. sources_found old.held pipe sources (e t) ∙ h)
 run_refused pipe old new sources still e NoMemory h = h
 run_refused pipe old new sources still e (Done rows reported) h = absurd h
@@ -128,57 +122,97 @@ run_refused pipe old new sources still e ConsoleFault h = absurd h
 
 -- ---- the script
 
-pub script_refused : (words : List (List ℕ)) (old new : PlaceState) (script : List ℕ) → script_of words ≡ Some script
-    → (o : Outcome) → ScriptRefusal script old new o → Refusal words old new o
-script_refused words old new script e (Script fault) h = (h.0, λ t. refused_at_script words old.held script e (Script fault) (h.1 t))
-script_refused words old new script e (ReadFault name) h = (h.1, λ t. (script, e, inl h.0))
-script_refused words old new script e NoMemory h = h
-script_refused words old new script e (Done rows reported) h = absurd h
-script_refused words old new script e Words h = absurd h
-script_refused words old new script e (Columns fault) h = absurd h
-script_refused words old new script e (TooLarge name) h = absurd h
-script_refused words old new script e (WriteFault name) h = absurd h
-script_refused words old new script e ConsoleFault h = absurd h
+module _ (old new : PlaceState) (script : List ℕ) where
+  pub script_refused : (o : Outcome) → ScriptRefusal script old new o → PreparedRefusal script old new o
+  script_refused (Script fault) h = (h.0, λ t. refused_at_script old.held script (Script fault) (h.1 t))
+  script_refused (ReadFault name) h = (h.1, λ t. inl h.0)
+  script_refused NoMemory h = h
+  script_refused (Done rows reported) h = absurd h
+  script_refused Words h = absurd h
+  script_refused (Columns fault) h = absurd h
+  script_refused (TooLarge name) h = absurd h
+  script_refused (WriteFault name) h = absurd h
+  script_refused ConsoleFault h = absurd h
 
--- ---- a run behind the script
+  -- the name of the last call that failed, where the script is read
+  pub failed_at_script : FailedAmong (Contains (script ∷ [])) old new → FailedAmong (IsReadFor script old.held) old new
+  failed_at_script h = among_more (Contains (script ∷ [])) (IsReadFor script old.held) old new (λ name c. inl (only_one script name c)) h
 
-module _ (words : List (List ℕ)) (old mid new : PlaceState) (script : List ℕ) (pipe : Pipe) (e : script_of words ≡ Some script)
+-- ---- its files behind it
+
+module _ (old mid new : PlaceState) (script : List ℕ) (pipe : Pipe)
     (only : OnlyRead old mid) (still : NoReadFailed old mid) (p : old.tells ≡ true → pipe_of_script old.held script (inr pipe)) where
-  -- the verdict on the pipe is that on the words
-  pub on_words : (v : Verdict) → old.tells ≡ true → verdict_on_pipe mid.held pipe ≡ v → IsVerdict words old.held v
-  on_words v t h =
-      let there : verdict_on_pipe old.held pipe ≡ v = subst (λ (held : Held). verdict_on_pipe held pipe ≡ v) (only.held t) h in
-      at_pipe words old.held script e pipe (p t) v (on_pipe old.held pipe v there)
+  -- what the pipe gives is what the script gives
+  pub of_script : (r : OrRefusal Ready) → old.tells ≡ true → ready_on_pipe mid.held pipe ≡ r → on_script script old.held r
+  of_script r t h =
+      let there : ready_on_pipe old.held pipe ≡ r = subst (λ (held : Held). ready_on_pipe held pipe ≡ r) (only.held t) h in
+      on_pipe old.held script pipe (p t) r there
 
-  pub pipe_refused : (o : Outcome) → PipeRefusal pipe mid new o → Refusal words old new o
-  pipe_refused (Columns fault) h = (none_later old mid new only still h.0, λ t. on_words (inl (Columns fault)) t (h.1 (only.telling.tells ∙ t)))
-  pipe_refused (TooLarge name) h = (none_later old mid new only still h.0, λ t. on_words (inl (TooLarge name)) t (h.1 (only.telling.tells ∙ t)))
-  pipe_refused (ReadFault name) h = (
+  pub files_refused : (o : Outcome) → PipeRefusal pipe mid new o → PreparedRefusal script old new o
+  files_refused (Columns fault) h = (none_later old mid new only still h.0, λ t. of_script (inl (Columns fault)) t (h.1 (only.telling.tells ∙ t)))
+  files_refused (TooLarge name) h = (none_later old mid new only still h.0, λ t. of_script (inl (TooLarge name)) t (h.1 (only.telling.tells ∙ t)))
+  files_refused (ReadFault name) h = (
     later_fault name old mid new only still h.0,
     λ t.
         let there : Contains (inputs_read (input_names pipe) old.held) name =
         subst (λ (held : Held). Contains (inputs_read (input_names pipe) held) name) (only.held t) (h.1 (only.telling.tells ∙ t)) in
-        (script, e, inr (pipe, p t, there)),
+        inr (pipe, p t, there),
   )
-  pipe_refused NoMemory h = h
-  pipe_refused (Done rows reported) h = absurd h
-  pipe_refused Words h = absurd h
-  pipe_refused (Script fault) h = absurd h
-  pipe_refused (WriteFault name) h = absurd h
-  pipe_refused ConsoleFault h = absurd h
+  files_refused NoMemory h = h
+  files_refused (Done rows reported) h = absurd h
+  files_refused Words h = absurd h
+  files_refused (Script fault) h = absurd h
+  files_refused (WriteFault name) h = absurd h
+  files_refused ConsoleFault h = absurd h
 
   pub failed_at_inputs : (mid.tells ≡ true → mid.names_faults ≡ true → FailedAmong (Contains (inputs_read (input_names pipe) mid.held)) mid new)
-      → old.tells ≡ true → old.names_faults ≡ true → FailedAmong (IsReadBy words old.held) old new
+      → old.tells ≡ true → old.names_faults ≡ true → FailedAmong (IsReadFor script old.held) old new
   failed_at_inputs f t n =
       let h : FailedAmong (Contains (inputs_read (input_names pipe) old.held)) mid new =
       subst (λ (held : Held). FailedAmong (Contains (inputs_read (input_names pipe) held)) mid new) (only.held t)
       (f (only.telling.tells ∙ t) (only.telling.names_faults ∙ n)) in
-      among_more (Contains (inputs_read (input_names pipe) old.held)) (IsReadBy words old.held) old new (λ name c. (script, e, inr (pipe, p t, c)))
+      among_more (Contains (inputs_read (input_names pipe) old.held)) (IsReadFor script old.held) old new (λ name c. inr (pipe, p t, c))
       (among_later (Contains (inputs_read (input_names pipe) old.held)) old mid new (still.named n) h)
 
--- ---- the name of the last call that failed, where the script is read
+-- ---- a command that names the script
 
-pub failed_at_script : (words : List (List ℕ)) (old new : PlaceState) (script : List ℕ) → script_of words ≡ Some script
-    → FailedAmong (Contains (script ∷ [])) old new → FailedAmong (IsReadBy words old.held) old new
-failed_at_script words old new script e h =
-    among_more (Contains (script ∷ [])) (IsReadBy words old.held) old new (λ name c. (script, e, inl (only_one script name c))) h
+module _ (command : Command) (old new : PlaceState) (script : List ℕ) (names : script_in command ≡ Some script) where
+  pub command_refused : ((o : Outcome) → on_script script old.held (inl o) → on_command old.held command (inl o))
+      → (o : Outcome) → PreparedRefusal script old new o → CommandRefusal command old new o
+  command_refused f (Script fault) h = (h.0, λ t. f (Script fault) (h.1 t))
+  command_refused f (Columns fault) h = (h.0, λ t. f (Columns fault) (h.1 t))
+  command_refused f (TooLarge name) h = (h.0, λ t. f (TooLarge name) (h.1 t))
+  command_refused f (ReadFault name) h = (h.0, λ t. (script, names, h.1 t))
+  command_refused f NoMemory h = h
+  command_refused f (Done rows reported) h = absurd h
+  command_refused f Words h = absurd h
+  command_refused f (WriteFault name) h = absurd h
+  command_refused f ConsoleFault h = absurd h
+
+  pub failed_for : FailedAmong (IsReadFor script old.held) old new → FailedAmong (IsReadIn command old.held) old new
+  failed_for h = among_more (IsReadFor script old.held) (IsReadIn command old.held) old new (λ name r. (script, names, r)) h
+
+-- where memory was refused
+pub no_memory_command : (command : Command) (old new : PlaceState) (o : Outcome) → o ≡ NoMemory → CommandRefusal command old new o
+no_memory_command command old new o m = subst (CommandRefusal command old new) (sym m) tt
+
+pub no_memory_steps : (known : Type 0) (IsIt : Deed → Type 0) (old new : ℕ) (deed : Deed) → (known → IsIt deed) → new ≤ old + deed.evaluations
+    → (o : Outcome) → o ≡ NoMemory → RefusalSteps known IsIt old new o
+no_memory_steps known IsIt old new deed h most o m = subst (RefusalSteps known IsIt old new) (sym m) (λ k. inr (deed, h k, most))
+
+-- ---- the words of a command
+
+module _ (words : List (List ℕ)) (command : Command) (old new : PlaceState) (e : command_of words ≡ Some command) where
+  pub words_refused : (o : Outcome) → CommandRefusal command old new o → Refusal words old new o
+  words_refused (Script fault) h = (h.0, λ t. at_command words old.held command e (inl (Script fault)) (h.1 t))
+  words_refused (Columns fault) h = (h.0, λ t. at_command words old.held command e (inl (Columns fault)) (h.1 t))
+  words_refused (TooLarge name) h = (h.0, λ t. at_command words old.held command e (inl (TooLarge name)) (h.1 t))
+  words_refused (ReadFault name) h = (h.0, λ t. let r = h.1 t in (r.0, ap (option_and_then script_in) e ∙ r.1, r.2))
+  words_refused NoMemory h = h
+  words_refused (Done rows reported) h = absurd h
+  words_refused Words h = absurd h
+  words_refused (WriteFault name) h = absurd h
+  words_refused ConsoleFault h = absurd h
+
+  pub failed_by : FailedAmong (IsReadIn command old.held) old new → FailedAmong (IsReadBy words old.held) old new
+  failed_by h = among_more (IsReadIn command old.held) (IsReadBy words old.held) old new (λ name r. (r.0, ap (option_and_then script_in) e ∙ r.1, r.2)) h

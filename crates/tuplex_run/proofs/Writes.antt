@@ -1,5 +1,5 @@
 -- Files that were written one after the other, and why one was not.
-use Rattle.std.proofs.Common.{◌≡◌, ◌≤◌, ◌-◌, ℕ, List, [], ◌∷◌, length, take, drop, length-drop, ◌∙◌, sym, subst, refl, inr, arith, append-nil, Contains}
+use Rattle.std.proofs.Common.{◌≡◌, ◌≤◌, ◌-◌, ℕ, List, [], ◌∷◌, length, take, drop, length-drop, ◌∙◌, sym, subst, refl, inl, inr, arith, append-nil, Contains}
 use Rattle.std.proofs.lemmas.List.{take_all}
 use Rattle.tx_place.specs.Count.{Rose}
 use Rattle.tx_place.specs.Place.{PlaceState, Held, KeepsTelling, with_file}
@@ -15,6 +15,11 @@ use Rattle.tuplex_run.specs.declared.outcome.Outcome.TheVariants.{Done, Words, S
 pub whole_is_part : (writes : List (List ℕ × List ℕ)) (old new : Held) → new ≡ written writes old → IsWrittenPartly writes old new
 whole_is_part [] old new e = e
 whole_is_part (write ∷ writes) old new e = inr (whole_is_part writes (with_file old write.0 write.1) new e)
+
+-- nothing was written
+pub none_is_part : (writes : List (List ℕ × List ℕ)) (held : Held) → IsWrittenPartly writes held held
+none_is_part [] held = refl
+none_is_part (write ∷ writes) held = inl (inl refl)
 
 refused_behind : (writes : List (List ℕ × List ℕ)) (old mid new : PlaceState) → 1 ≤ length writes → KeepsTelling old mid → mid.write_faults ≡ old.write_faults → (o : Outcome) → WriteRefusal (names_of (drop 1 writes)) mid new o → WriteRefusal (names_of writes) old new o
 refused_behind [] old mid new le k same o h = absurd (omega arith)

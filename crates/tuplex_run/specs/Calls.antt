@@ -1,5 +1,5 @@
 -- What only the contracts of calls inside this crate need.
--- the code's own record of an accepted run, as a deed
+-- the code's own record of an accepted command, as a deed
 pub mod Accept
 -- why a command was refused before it wrote anything, a step each
 pub mod Refusals

@@ -1,17 +1,18 @@
 -- All that an accepted command does: the files that it writes, and what it says.
-use Rattle.std.specs.Prelude.{◌≡◌, ◌⊎◌, ℕ, List, [], ◌∷◌}
+use Rattle.std.specs.Prelude.{◌≡◌, ◌⊎◌, ℕ, Bool, List, [], ◌∷◌}
 use Rattle.tx_place.specs.Place.{Held, with_file}
 use Rattle.tuplex_run.specs.Partly.{IsPartly}
 
 pub record Deed : Type 0 where
   -- the files that it writes, each with all its bytes, in this order; none for a command that only answers
   pub writes : List (List ℕ × List ℕ)
-  -- what it says
+  -- the line that it says, and whether it says how far the counts rose in a second one
   pub line : List ℕ
+  pub stats : Bool
   -- the numbers of its answer
   pub rows : ℕ
   pub reported : ℕ
-  -- how many functions it evaluates before it writes
+  -- how many evaluations of functions it makes before it writes
   pub evaluations : ℕ
 
 abbrev pub names_of : List (List ℕ × List ℕ) → List (List ℕ)

@@ -1,4 +1,4 @@
--- What a run asks of its files once its script is accepted: the inputs, and their columns.
+-- What a script asks of its files once it is accepted: the inputs, and their columns.
 use Rattle.std.specs.Prelude.{◌⊎◌, ℕ, ◌+◌, List, [], ◌∷◌, Option, Some, None, if◌then◌else◌, Bool, false, nat_le, length, filter_map}
 use mathlib.Core.Logic.{inl, inr}
 use Rattle.tx_place.specs.Place.{Held}
@@ -79,6 +79,16 @@ or_columns (Some absent) columns = inl (Columns (record { operator = absent.0; n
 
 abbrev pub columns_in : List Schema → Pipe → OrRefusal (List Schema)
 columns_in headers pipe = or_columns (first_absent headers pipe) (schemas headers pipe)
+
+-- ---- a script that is accepted with its files: its pipe, what its operators read, and their columns
+
+pub record Ready : Type 0 where
+  pub pipe : Pipe
+  pub sources : List (Option CsvSource)
+  pub columns : List Schema
+
+abbrev pub ready : Pipe → List (Option CsvSource) → List Schema → Ready
+ready pipe sources columns = record { pipe = pipe; sources = sources; columns = columns }
 
 -- ---- the names of the inputs
 

@@ -7,7 +7,7 @@ use Rattle.tx_place.specs.Console.{ConsoleState}
 pub record Outside : Type 0 where
   pub place : PlaceState
   pub console : ConsoleState
-  -- how many functions were evaluated, as a count that has no end and in the meter
+  -- how many evaluations of functions were made, as a count that has no end and in the meter
   pub steps : ℕ
   pub meter : Meter
 

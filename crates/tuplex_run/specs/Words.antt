@@ -1,17 +1,15 @@
--- The words of a command.
--- `bytes_eq` compares any two lists of numbers, here code points.
-use Rattle.std.specs.Prelude.{ℕ, ◌==◌, ◌&&◌, Bool, true, not, List, [], ◌∷◌, Option, Some, None, if◌then◌else◌, codes}
-use Rattle.std.specs.Str.{bytes_eq}
+-- The script that the words of a command name.
+use Rattle.std.specs.Prelude.{ℕ, List, Option, Some, None, option_and_then}
+use Rattle.tx_words.specs.declared.command.Command.{Command}
+use Rattle.tx_words.specs.declared.command.Command.TheVariants.{Run, Check, Generate}
+use Rattle.tx_words.specs.Words.{command_of}
 
--- a script's name is `-` alone, or does not begin with `-`
-abbrev pub is_script_word : List ℕ → Bool
-is_script_word [] = true
-is_script_word (c ∷ []) = true
-is_script_word (c ∷ d ∷ cs) = not (c == 45)
+-- the script that a command names: to run it, or to check it
+abbrev pub script_in : Command → Option (List ℕ)
+script_in (Run script sample order stats) = Some script
+script_in (Check script) = Some script
+script_in (Generate seed count file) = None
 
--- the script that the words ask to run: `run SCRIPT`, and nothing else is read
+-- the script that the words name
 abbrev pub script_of : List (List ℕ) → Option (List ℕ)
-script_of [] = None
-script_of (word ∷ []) = None
-script_of (word ∷ script ∷ []) = if bytes_eq word (codes "run") && is_script_word script then Some script else None
-script_of (word ∷ script ∷ more ∷ words) = None
+script_of words = option_and_then script_in (command_of words)

@@ -2,12 +2,12 @@
 ghost use Rattle.std.specs.Prelude.{◌≡◌, true};
 ghost use Rattle.tuplex_run.specs.Outside.{outside};
 ghost use Rattle.tuplex_run.specs.Complaint.{complaint};
-ghost use Rattle.tuplex_run.specs.Ends.{RunsPlainly, Ended, Complained};
+ghost use Rattle.tuplex_run.specs.Ends.{RunsPlainly, Ended, Complained, OtherCommands};
 ghost use Rattle.tuplex_run.specs.Calls.Finish.{OnlySays};
 
+use crate::accepting::accept;
 use crate::closing::close;
 use crate::laws::verdicts_are_one;
-use crate::reading::accept;
 use crate::writing::finish;
 use crate::{Outcome, Words};
 use std::alloc::Global;
@@ -24,6 +24,8 @@ fn carry_out<P: Place, C: Console, L: Ledger>(
     meter: &mut Meter,
     steps: &mut Steps<L>,
 ) -> Outcome
+    requires interp { meter.old.interp ≡ 0 }
+    requires typed { meter.old.typed ≡ 0 }
     ensures ended { Ended words.now
         (outside (P.state place.old) (C.state console.old) steps.old meter.old)
         (outside (P.state place.new) (C.state console.new) steps.new meter.new) result }
@@ -31,7 +33,7 @@ fn carry_out<P: Place, C: Console, L: Ledger>(
 {
     match accept(alloc, words, place, meter, steps) {
         Err(refusal) => refusal,
-        Ok(run) => finish(alloc, place, console, &run),
+        Ok(run) => finish(alloc, place, console, &run, meter),
     }
 }
 
@@ -39,7 +41,7 @@ fn carry_out<P: Place, C: Console, L: Ledger>(
 ///
 /// `words` are those behind the program's own name. The script, its inputs and the files that it writes are those of
 /// `place`, by their names; what it says and complains goes to `console`. `specs/Ends.antt` says how it ends: the
-/// headline, when each outcome comes, and what stands afterwards.
+/// headline, when each outcome comes, what stands afterwards, and so what a check and a generated table are.
 pub fn run_words<P: Place, C: Console, L: Ledger>(
     alloc: Global,
     words: &Words,
@@ -54,6 +56,9 @@ pub fn run_words<P: Place, C: Console, L: Ledger>(
         (outside (P.state place.old) (C.state console.old) steps.old meter.old)
         (outside (P.state place.new) (C.state console.new) steps.new meter.new) result }
     ensures ended { Ended words.now
+        (outside (P.state place.old) (C.state console.old) steps.old meter.old)
+        (outside (P.state place.new) (C.state console.new) steps.new meter.new) result }
+    ensures others { (P.state place.old).tells ≡ true → OtherCommands words.now
         (outside (P.state place.old) (C.state console.old) steps.old meter.old)
         (outside (P.state place.new) (C.state console.new) steps.new meter.new) result }
     ensures complained { (C.state console.old).tells ≡ true

@@ -2,7 +2,8 @@
 #![tactic(auto)]
 
 mod accept;
-mod asked;
+mod accepting;
+mod answers;
 mod closing;
 mod command;
 mod complaint;

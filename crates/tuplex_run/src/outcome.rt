@@ -15,8 +15,9 @@ pub struct ColumnFault {
 /// The outcome of a command. Each but `Done` and `ConsoleFault` is complained of, in one line.
 #[derive(Debug, Drop)]
 pub enum Outcome {
-    /// The output and the report are written. `rows` is the number of rows of the output without its header, and
-    /// `reported` that of the exceptions in the report.
+    /// A run has written its output and its report: `rows` is the number of rows of the output without its header, and
+    /// `reported` that of the exceptions in the report. A check found its script accepted with its files, and both are 0.
+    /// `generate` has written its file of so many rows.
     Done { rows: u64, reported: u64 },
     /// The words ask for no command.
     Words,
@@ -28,11 +29,11 @@ pub enum Outcome {
     TooLarge { name: PyText },
     /// The script or the input of this name was not read.
     ReadFault { name: PyText },
-    /// The output or the report of this name was not written.
+    /// The output, the report or the generated file of this name was not written.
     WriteFault { name: PyText },
     /// Memory was refused.
     NoMemory,
-    /// The files are written, and the console line was not said.
+    /// The files, if there are any, are written, and what is due was not said.
     ConsoleFault,
 }
 

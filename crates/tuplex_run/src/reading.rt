@@ -1,27 +1,21 @@
-// All that comes before the first byte is written: the script, its inputs, their columns, and the work.
-ghost use Rattle.std.specs.Prelude.{◌≡◌, ◌⊎◌, ◌-◌, ◌∷◌, [], true, None, IfOk, IfErr, IsErrOf, OnOk, IsSome, Contains, ⊤};
+// A script with its files: the script, its inputs, and their columns.
+ghost use Rattle.std.specs.Prelude.{◌≡◌, ◌∷◌, [], true, IfOk, IfErr, OnOk, Contains};
 ghost use mathlib.Core.Logic.{inr};
 ghost use Rattle.tx_pipe.specs.Pipe.{pipe_of};
 ghost use Rattle.tx_pipe.specs.Lawful.{Lawful};
 ghost use Rattle.tx_script.specs.Accepted as text;
-ghost use Rattle.tx_plain.specs.Counts.{Follows};
-ghost use Rattle.tuplex_run.specs.Words.{script_of};
 ghost use Rattle.tuplex_run.specs.Inputs.{inputs_in, input_names, inputs_read};
-ghost use Rattle.tuplex_run.specs.Due.{IsVerdict, IsReadBy, pipe_of_script};
+ghost use Rattle.tuplex_run.specs.Due.{on_script, IsReadFor, pipe_of_script};
 ghost use Rattle.tuplex_run.specs.Ends.{FailedAmong};
-ghost use Rattle.tuplex_run.specs.Calls.Accept.{as_deed, verdict_on_pipe, verdict_on_sources};
-ghost use Rattle.tuplex_run.specs.Calls.Refusals.{OnlyRead, NoReadFailed, Refusal, CheckRefusal, ScriptRefusal, InputsRefusal, PipeRefusal, ColumnsRefusal, RefusalSteps};
+ghost use Rattle.tuplex_run.specs.Calls.Accept.{as_ready, ready_on_pipe, ready_on_sources};
+ghost use Rattle.tuplex_run.specs.Calls.Refusals.{OnlyRead, NoReadFailed, CheckRefusal, ScriptRefusal, InputsRefusal, PipeRefusal, ColumnsRefusal, PreparedRefusal};
 
-use crate::accept::Accepted;
-use crate::asked::script_word;
+use crate::Outcome;
+use crate::accept::Prepared;
 use crate::header::columns_of;
 use crate::input::read_inputs;
 use crate::whole::read_named;
-use crate::work::work;
-use crate::{Outcome, Words};
 use std::alloc::Global;
-use std::sync::ledger::Ledger;
-use tx_base::{Meter, Steps};
 use tx_pipe::Pipe;
 use tx_place::Place;
 use tx_plain::Sources;
@@ -86,81 +80,58 @@ fn sources_of<P: Place>(alloc: Global, place: &mut P, pipe: &Pipe) -> Result<Sou
     }
 }
 
-/// Looks for the columns of a pipe, and runs it.
-fn run_on<L: Ledger>(
-    alloc: Global,
-    pipe: &Pipe,
-    sources: &Sources,
-    meter: &mut Meter,
-    steps: &mut Steps<L>,
-) -> Result<Accepted, Outcome>
-    requires { Lawful (pipe_of pipe.now) }
-    ensures accepted { IfOk result (λ run. verdict_on_sources (pipe_of pipe.now) sources.now ≡ inr (as_deed run (steps.new - steps.old))) }
-    ensures refused { IfErr result (ColumnsRefusal (verdict_on_sources (pipe_of pipe.now) sources.now)) }
-    ensures steps { IfErr result (RefusalSteps ⊤ (λ deed. verdict_on_sources (pipe_of pipe.now) sources.now ≡ inr deed) steps.old steps.new) }
-    ensures counts { Follows steps.old steps.new meter.old meter.new }
+/// A pipe with what its operators read and their columns, where the columns that it asks for are there.
+fn with_columns(alloc: Global, pipe: Pipe, sources: Sources) -> Result<Prepared, Outcome>
+    requires { Lawful (pipe_of pipe) }
+    ensures lawful { IfOk result (λ prepared. Lawful (pipe_of prepared.pipe)) }
+    ensures ready { IfOk result (λ prepared. ready_on_sources (pipe_of pipe) sources ≡ inr (as_ready prepared)) }
+    ensures refused { IfErr result (ColumnsRefusal (ready_on_sources (pipe_of pipe) sources)) }
 {
-    let _interp = meter.interp;
-    match columns_of(alloc, pipe, sources) {
+    match columns_of(alloc, &pipe, &sources) {
         Err(refusal) => Err(refusal),
-        Ok(columns) => work(alloc, pipe, &columns, sources, meter, steps),
+        Ok(columns) => Ok(Prepared {
+            pipe,
+            sources,
+            columns,
+        }),
     }
 }
 
-/// Reads the inputs of a pipe, looks for its columns, and runs it.
-fn run_pipe<P: Place, L: Ledger>(
-    alloc: Global,
-    place: &mut P,
-    pipe: &Pipe,
-    meter: &mut Meter,
-    steps: &mut Steps<L>,
-) -> Result<Accepted, Outcome>
-    requires { Lawful (pipe_of pipe.now) }
+/// Reads the inputs of a pipe, and looks for its columns.
+fn with_inputs<P: Place>(alloc: Global, place: &mut P, pipe: Pipe) -> Result<Prepared, Outcome>
+    requires { Lawful (pipe_of pipe) }
     ensures only { OnlyRead (P.state place.old) (P.state place.new) }
     ensures still { OnOk result (NoReadFailed (P.state place.old) (P.state place.new)) }
-    ensures accepted { (P.state place.old).tells ≡ true
-        → IfOk result (λ run. verdict_on_pipe (P.state place.old).held (pipe_of pipe.now) ≡ inr (as_deed run (steps.new - steps.old))) }
-    ensures refused { IfErr result (PipeRefusal (pipe_of pipe.now) (P.state place.old) (P.state place.new)) }
+    ensures lawful { IfOk result (λ prepared. Lawful (pipe_of prepared.pipe)) }
+    ensures ready { (P.state place.old).tells ≡ true
+        → IfOk result (λ prepared. ready_on_pipe (P.state place.old).held (pipe_of pipe) ≡ inr (as_ready prepared)) }
+    ensures refused { IfErr result (PipeRefusal (pipe_of pipe) (P.state place.old) (P.state place.new)) }
     ensures named { (P.state place.old).tells ≡ true → (P.state place.old).names_faults ≡ true
-        → FailedAmong (Contains (inputs_read (input_names (pipe_of pipe.now)) (P.state place.old).held)) (P.state place.old) (P.state place.new) }
-    ensures steps { IfErr result (RefusalSteps ((P.state place.old).tells ≡ true)
-        (λ deed. verdict_on_pipe (P.state place.old).held (pipe_of pipe.now) ≡ inr deed) steps.old steps.new) }
-    ensures counts { Follows steps.old steps.new meter.old meter.new }
+        → FailedAmong (Contains (inputs_read (input_names (pipe_of pipe)) (P.state place.old).held)) (P.state place.old) (P.state place.new) }
 {
-    let _interp = meter.interp;
-    match sources_of(alloc, place, pipe) {
+    match sources_of(alloc, place, &pipe) {
         Err(refusal) => Err(refusal),
-        Ok(sources) => run_on(alloc, pipe, &sources, meter, steps),
+        Ok(sources) => with_columns(alloc, pipe, sources),
     }
 }
 
-/// All that comes before the first byte is written.
-pub(crate) fn accept<P: Place, L: Ledger>(
+/// A script with its files, where it is accepted with them.
+pub(crate) fn prepare<P: Place>(
     alloc: Global,
-    words: &Words,
     place: &mut P,
-    meter: &mut Meter,
-    steps: &mut Steps<L>,
-) -> Result<Accepted, Outcome>
+    script: &PyText,
+) -> Result<Prepared, Outcome>
     ensures only { OnlyRead (P.state place.old) (P.state place.new) }
     ensures still { OnOk result (NoReadFailed (P.state place.old) (P.state place.new)) }
-    ensures accepted { (P.state place.old).tells ≡ true
-        → IfOk result (λ run. IsVerdict words.now (P.state place.old).held (inr (as_deed run (steps.new - steps.old)))) }
-    ensures asked { OnOk result (IsSome (script_of words.now)) }
-    ensures unread { script_of words.now ≡ None → (IsErrOf result Outcome.Words) ⊎ (IsErrOf result Outcome.NoMemory) }
-    ensures refused { IfErr result (Refusal words.now (P.state place.old) (P.state place.new)) }
+    ensures lawful { IfOk result (λ prepared. Lawful (pipe_of prepared.pipe)) }
+    ensures ready { (P.state place.old).tells ≡ true
+        → IfOk result (λ prepared. on_script script.now (P.state place.old).held (inr (as_ready prepared))) }
+    ensures refused { IfErr result (PreparedRefusal script.now (P.state place.old) (P.state place.new)) }
     ensures named { (P.state place.old).tells ≡ true → (P.state place.old).names_faults ≡ true
-        → FailedAmong (IsReadBy words.now (P.state place.old).held) (P.state place.old) (P.state place.new) }
-    ensures steps { IfErr result (RefusalSteps ((P.state place.old).tells ≡ true)
-        (λ deed. IsVerdict words.now (P.state place.old).held (inr deed)) steps.old steps.new) }
-    ensures counts { Follows steps.old steps.new meter.old meter.new }
+        → FailedAmong (IsReadFor script.now (P.state place.old).held) (P.state place.old) (P.state place.new) }
 {
-    let _interp = meter.interp;
-    let Some(script) = script_word(words) else {
-        return Err(Outcome::Words);
-    };
     match read_pipe(alloc, place, script) {
         Err(refusal) => Err(refusal),
-        Ok(pipe) => run_pipe(alloc, place, &pipe, meter, steps),
+        Ok(pipe) => with_inputs(alloc, place, pipe),
     }
 }

@@ -4,17 +4,17 @@ ghost use Rattle.std.specs.Option.{option_copied};
 ghost use Rattle.tx_pipe.specs.Pipe.{operator_of, output_file, pipe_of};
 ghost use Rattle.tx_pipe.specs.Lawful.{Lawful};
 ghost use Rattle.tx_plain.specs.Counts.{Follows};
-ghost use Rattle.tuplex_run.specs.Run.{deed_of, deed_with, line_of, output_name};
-ghost use Rattle.tuplex_run.specs.Calls.Accept.{as_deed};
+ghost use Rattle.tuplex_run.specs.Commands.{deed_with, line_of, output_name, run_deed};
+ghost use Rattle.tuplex_run.specs.Calls.Accept.{as_deed, as_ready};
 
 use crate::Outcome;
-use crate::accept::Accepted;
+use crate::accept::{Accepted, Prepared};
 use std::alloc::Global;
 use std::sync::ledger::Ledger;
 use tx_base::{Meter, Steps};
-use tx_pipe::{Node, Operator, Pipe, Schemas};
+use tx_pipe::{Node, Operator};
 use tx_place::Files;
-use tx_plain::{Answer, Sources, run_plain};
+use tx_plain::{Answer, run_plain};
 use tx_script::report_name;
 use tx_text::{Bytes, NoMemory, PyText};
 
@@ -65,8 +65,13 @@ fn two_files(
 }
 
 // What is written and said of an answer.
-fn files_of(alloc: Global, nodes: &[Node], answer: Answer) -> Result<Accepted, NoMemory>
-    ensures { (evaluations : ℕ) → IfOk result (λ run. as_deed run evaluations ≡ deed_with (output_name (pipe_of nodes.now)) answer evaluations) }
+fn files_of(
+    alloc: Global,
+    nodes: &[Node],
+    stats: bool,
+    answer: Answer,
+) -> Result<Accepted, NoMemory>
+    ensures { (evaluations : ℕ) → IfOk result (λ run. as_deed run evaluations ≡ deed_with (output_name (pipe_of nodes.now)) stats answer evaluations) }
 {
     let Answer {
         output,
@@ -81,47 +86,51 @@ fn files_of(alloc: Global, nodes: &[Node], answer: Answer) -> Result<Accepted, N
     Ok(Accepted {
         writes,
         line,
+        stats,
         rows,
         reported,
     })
 }
 
-// Runs a pipe over its sources.
+// Runs a script on its files.
 fn run_over<L: Ledger>(
     alloc: Global,
-    pipe: &Pipe,
-    columns: &Schemas,
-    sources: &Sources,
+    prepared: &Prepared,
+    stats: bool,
     meter: &mut Meter,
     steps: &mut Steps<L>,
 ) -> Result<Accepted, NoMemory>
-    requires { Lawful (pipe_of pipe.now) }
-    ensures deed { IfOk result (λ run. as_deed run (steps.new - steps.old) ≡ deed_of sources.now columns.now (pipe_of pipe.now)) }
-    ensures most { steps.new ≤ steps.old + (deed_of sources.now columns.now (pipe_of pipe.now)).evaluations }
+    requires { Lawful (pipe_of prepared.now.pipe) }
+    ensures deed { IfOk result (λ run. as_deed run (steps.new - steps.old) ≡ run_deed stats (as_ready prepared.now)) }
+    ensures most { steps.new ≤ steps.old + (run_deed stats (as_ready prepared.now)).evaluations }
     ensures counts { Follows steps.old steps.new meter.old meter.new }
 {
+    let Prepared {
+        pipe,
+        sources,
+        columns,
+    } = prepared;
     match run_plain(alloc, pipe, columns, sources, meter, steps) {
-        Ok(answer) => files_of(alloc, pipe.as_slice(), answer),
+        Ok(answer) => files_of(alloc, pipe.as_slice(), stats, answer),
         Err(_) => Err(NoMemory),
     }
 }
 
-/// Runs a pipe over its sources. `columns` are those of its operators.
+/// Runs a script on its files. Where `stats` holds, its counts are said too.
 pub(crate) fn work<L: Ledger>(
     alloc: Global,
-    pipe: &Pipe,
-    columns: &Schemas,
-    sources: &Sources,
+    prepared: &Prepared,
+    stats: bool,
     meter: &mut Meter,
     steps: &mut Steps<L>,
 ) -> Result<Accepted, Outcome>
-    requires { Lawful (pipe_of pipe.now) }
-    ensures deed { IfOk result (λ run. as_deed run (steps.new - steps.old) ≡ deed_of sources.now columns.now (pipe_of pipe.now)) }
+    requires { Lawful (pipe_of prepared.now.pipe) }
+    ensures deed { IfOk result (λ run. as_deed run (steps.new - steps.old) ≡ run_deed stats (as_ready prepared.now)) }
     ensures memory { IfErr result (λ refusal. refusal ≡ Outcome.NoMemory) }
-    ensures most { steps.new ≤ steps.old + (deed_of sources.now columns.now (pipe_of pipe.now)).evaluations }
+    ensures most { steps.new ≤ steps.old + (run_deed stats (as_ready prepared.now)).evaluations }
     ensures counts { Follows steps.old steps.new meter.old meter.new }
 {
-    match run_over(alloc, pipe, columns, sources, meter, steps) {
+    match run_over(alloc, prepared, stats, meter, steps) {
         Ok(run) => Ok(run),
         Err(_) => Err(Outcome::NoMemory),
     }

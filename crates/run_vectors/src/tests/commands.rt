@@ -106,10 +106,51 @@ run out.csv.exceptions.csv;out.csv.exceptions.csv:*;in.csv:a,b/1,2/;;;; => 3;;-;
 # words that ask for no command
 ;s.txs:*;in.csv:a,b/1,2/;;;; => 2;;-;-;;usage: tuplex run SCRIPT [--sample N] [--order K] [--stats] | check SCRIPT | generate SEED ROWS FILE/;
 run;s.txs:*;in.csv:a,b/1,2/;;;; => 2;;-;-;;usage: tuplex run SCRIPT [--sample N] [--order K] [--stats] | check SCRIPT | generate SEED ROWS FILE/;
-check s.txs;s.txs:*;in.csv:a,b/1,2/;;;; => 2;;-;-;;usage: tuplex run SCRIPT [--sample N] [--order K] [--stats] | check SCRIPT | generate SEED ROWS FILE/;
+check;s.txs:*;in.csv:a,b/1,2/3,4/;;;; => 2;;-;-;;usage: tuplex run SCRIPT [--sample N] [--order K] [--stats] | check SCRIPT | generate SEED ROWS FILE/;
+check s.txs s.txs;s.txs:*;in.csv:a,b/1,2/3,4/;;;; => 2;;-;-;;usage: tuplex run SCRIPT [--sample N] [--order K] [--stats] | check SCRIPT | generate SEED ROWS FILE/;
+check s.txs --stats;s.txs:*;in.csv:a,b/1,2/3,4/;;;; => 2;;-;-;;usage: tuplex run SCRIPT [--sample N] [--order K] [--stats] | check SCRIPT | generate SEED ROWS FILE/;
+generate 1 1000001 out.csv;s.txs:*;in.csv:a,b/1,2/3,4/;;;; => 2;;-;-;;usage: tuplex run SCRIPT [--sample N] [--order K] [--stats] | check SCRIPT | generate SEED ROWS FILE/;
+generate 18446744073709551616 1 out.csv;s.txs:*;in.csv:a,b/1,2/3,4/;;;; => 2;;-;-;;usage: tuplex run SCRIPT [--sample N] [--order K] [--stats] | check SCRIPT | generate SEED ROWS FILE/;
+generate 1 3;s.txs:*;in.csv:a,b/1,2/3,4/;;;; => 2;;-;-;;usage: tuplex run SCRIPT [--sample N] [--order K] [--stats] | check SCRIPT | generate SEED ROWS FILE/;
+run s.txs --stats --stats;s.txs:*;in.csv:a,b/1,2/3,4/;;;; => 2;;-;-;;usage: tuplex run SCRIPT [--sample N] [--order K] [--stats] | check SCRIPT | generate SEED ROWS FILE/;
+run s.txs --sample -1;s.txs:*;in.csv:a,b/1,2/3,4/;;;; => 2;;-;-;;usage: tuplex run SCRIPT [--sample N] [--order K] [--stats] | check SCRIPT | generate SEED ROWS FILE/;
+run s.txs --sample 10001;s.txs:*;in.csv:a,b/1,2/3,4/;;;; => 2;;-;-;;usage: tuplex run SCRIPT [--sample N] [--order K] [--stats] | check SCRIPT | generate SEED ROWS FILE/;
+run s.txs --order 18446744073709551616;s.txs:*;in.csv:a,b/1,2/3,4/;;;; => 2;;-;-;;usage: tuplex run SCRIPT [--sample N] [--order K] [--stats] | check SCRIPT | generate SEED ROWS FILE/;
+--help;s.txs:*;in.csv:a,b/1,2/3,4/;;;; => 2;;-;-;;usage: tuplex run SCRIPT [--sample N] [--order K] [--stats] | check SCRIPT | generate SEED ROWS FILE/;
 run -s.txs;s.txs:*;in.csv:a,b/1,2/;;;; => 2;;-;-;;usage: tuplex run SCRIPT [--sample N] [--order K] [--stats] | check SCRIPT | generate SEED ROWS FILE/;
 run s.txs s.txs;s.txs:*;in.csv:a,b/1,2/;;;; => 2;;-;-;;usage: tuplex run SCRIPT [--sample N] [--order K] [--stats] | check SCRIPT | generate SEED ROWS FILE/;
 Run s.txs;s.txs:*;in.csv:a,b/1,2/;;;; => 2;;-;-;;usage: tuplex run SCRIPT [--sample N] [--order K] [--stats] | check SCRIPT | generate SEED ROWS FILE/;
+# options stand before, between and behind the other words, and change no file
+run s.txs --sample=5 --stats;s.txs:*;in.csv:a,b/1,2/3,4/;;;; => 0;;a,b,s/1,2,3/3,4,7/;operator,kind,class,row/;rows 2 exceptions 0/interp 2 typed 0/;;
+run --sample 5 s.txs;s.txs:*;in.csv:a,b/1,2/3,4/;;;; => 0;;a,b,s/1,2,3/3,4,7/;operator,kind,class,row/;rows 2 exceptions 0/;;
+run --stats s.txs --sample 0;s.txs:*;in.csv:a,b/1,2/3,4/;;;; => 0;;a,b,s/1,2,3/3,4,7/;operator,kind,class,row/;rows 2 exceptions 0/interp 2 typed 0/;;
+run s.txs --sample 10000 --order 18446744073709551615;s.txs:*;in.csv:a,b/1,2/3,4/;;;; => 0;;a,b,s/1,2,3/3,4,7/;operator,kind,class,row/;rows 2 exceptions 0/;;
+run s.txs --sample +007 --order=+0;s.txs:*;in.csv:a,b/1,2/3,4/;;;; => 0;;a,b,s/1,2,3/3,4,7/;operator,kind,class,row/;rows 2 exceptions 0/;;
+run -- -s;-s:*;in.csv:a,b/1,2/3,4/;;;; => 0;;a,b,s/1,2,3/3,4,7/;operator,kind,class,row/;rows 2 exceptions 0/;;
+run '';s.txs:*;in.csv:a,b/1,2/3,4/;;;; => 6;;-;-;;tuplex: : read failed/;
+# both lines of `--stats` go in one call; the first number is that of the evaluations, of resolvers too
+run s.txs --stats;s.txs:*;in.csv:a,b/1,2/3,4/;;;2; => 0;;a,b,s/1,2,3/3,4,7/;operator,kind,class,row/;rows 2 exceptions 0/interp 2 typed 0/;;
+run s.txs --stats;s.txs:*;in.csv:a,b/1,2/3,4/;;;1; => 9;;a,b,s/1,2,3/3,4,7/;operator,kind,class,row/;rows 2 exceptions ;;
+run s.txs --stats;s.txs:csv("in.csv").withColumn("n", lambda x: int(x["a"])).resolve(ValueError, lambda x: 0).tocsv("out.csv");in.csv:a/7/7up/""/;;;; => 0;;a,n/7,7/7up,0/;operator,kind,class,row/2,withColumn,TypeError,1:3/;rows 2 exceptions 1/interp 4 typed 0/;;
+run s.txs --stats;s.txs:csv("in.csv").tocsv("out.csv");in.csv:a,b/1,2/;;;; => 0;;a,b/1,2/;operator,kind,class,row/;rows 1 exceptions 0/interp 0 typed 0/;;
+# a check makes all checks and writes nothing; it reads what a run reads: two reads of the script and two of the input
+check s.txs;s.txs:*;in.csv:a,b/1,2/3,4/;;;; => 0;;-;-;accepted/;;
+check -- -s;-s:*;in.csv:a,b/1,2/3,4/;;;; => 0;;-;-;accepted/;;
+check s.txs;s.txs:csv("in.csv").sort().tocsv("out.csv");in.csv:a,b/1,2/3,4/;;;; => 3;;-;-;;tuplex: script line 1: Operator/;
+check s.txs;s.txs:*;in.csv:x/;;;; => 4;;-;-;;tuplex: operator 2: no column a/;
+check s.txs;t:*;in.csv:a,b/1,2/3,4/;;;; => 6;s.txs;-;-;;tuplex: s.txs: read failed/;
+check s.txs;s.txs:*;in.csv:a,b/1,2/3,4/;1;2;; => 6;s.txs;-;-;;tuplex: s.txs: read failed/;
+check s.txs;s.txs:*;in.csv:a,b/1,2/3,4/;3;4;; => 6;in.csv;-;-;;tuplex: in.csv: read failed/;
+check s.txs;s.txs:*;in.csv:a,b/1,2/3,4/;5;5;; => 0;;-;-;accepted/;;
+check s.txs;s.txs:*;in.csv:a,b/1,2/3,4/;;;1; => 9;;-;-;acce;;
+# a table that a seed gives: a create and an append, and then the line
+generate 1 3 out.csv;s.txs:*;in.csv:a,b/1,2/3,4/;;;; => 0;;id,qty,price,note/1,574,214,n0/2,,235,n4/3,784,712,n0/;-;rows 3/;;
+generate +01 +3 -- out.csv;s.txs:*;in.csv:a,b/1,2/3,4/;;;; => 0;;id,qty,price,note/1,574,214,n0/2,,235,n4/3,784,712,n0/;-;rows 3/;;
+generate 18446744073709551615 0 out.csv;s.txs:*;in.csv:a,b/1,2/3,4/;;;; => 0;;id,qty,price,note/;-;rows 0/;;
+generate 1 3 out.csv;s.txs:*;in.csv:a,b/1,2/3,4/;1;1;; => 7;out.csv;-;-;;tuplex: out.csv: write failed/;
+generate 1 3 out.csv;s.txs:*;in.csv:a,b/1,2/3,4/;2;2;; => 7;out.csv;id,qty,price,note/1,574,214;-;;tuplex: out.csv: write failed/;
+generate 1 3 out.csv;s.txs:*;in.csv:a,b/1,2/3,4/;3;3;; => 0;;id,qty,price,note/1,574,214,n0/2,,235,n4/3,784,712,n0/;-;rows 3/;;
+generate 1 3 out.csv;s.txs:*;in.csv:a,b/1,2/3,4/;;;1; => 9;;id,qty,price,note/1,574,214,n0/2,,235,n4/3,784,712,n0/;-;row;;
 # files that are absent
 run s.txs;t:*;in.csv:a,b/1,2/3,4/;;;; => 6;s.txs;-;-;;tuplex: s.txs: read failed/;
 run s.txs;s.txs:*;in:a,b/1,2/3,4/;;;; => 6;in.csv;-;-;;tuplex: in.csv: read failed/;
@@ -248,6 +289,6 @@ fn commands_leave_what_they_should(rt: HostRuntime) -> Result<(), Fail> {
             rows = rows.wrapping_add(1);
         }
     }
-    assert!(rt; rows == 110);
+    assert!(rt; rows == 147);
     Ok(())
 }

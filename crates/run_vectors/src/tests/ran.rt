@@ -76,12 +76,17 @@ fn counted<L: Ledger>(
     run_words(alloc, words, place, console, &mut meter, &mut steps)
 }
 
+// What a word of a line stands for: `''` is the empty one.
+fn meant(word: &str) -> &str {
+    if word == "''" { "" } else { word }
+}
+
 /// The words of a line, with one blank between them.
 fn words_of(alloc: Global, line: &str) -> Result<Words, NoMemory> {
     let mut words = Words::new(alloc);
     for word in line.split(' ') {
         if !word.is_empty() {
-            words.push(PyText::from_str(alloc, word)?)?;
+            words.push(PyText::from_str(alloc, meant(word))?)?;
         }
     }
     Ok(words)

@@ -90,8 +90,8 @@ run s.txs§§s.txs:####€€€€§in.csv:a,b¶1,2¶3,4¶ => 3§§-§-§§tupl
 run s.txs§§s.txs:#####€€€€§in.csv:a,b¶1,2¶3,4¶ => 3§§-§-§§tuplex: script line 0: TooLong¶
 run§§s.txs:csv("in.csv").withColumn("s", lambda x: x["a"] + x["b"]).tocsv("out.csv")§in.csv:a,b¶1,2¶3,4¶ => 2§§-§-§§usage: tuplex run SCRIPT [--sample N] [--order K] [--stats] | check SCRIPT | generate SEED ROWS FILE¶
 run s.txs --sample 10001§§s.txs:csv("in.csv").withColumn("s", lambda x: x["a"] + x["b"]).tocsv("out.csv")§in.csv:a,b¶1,2¶3,4¶ => 2§§-§-§§usage: tuplex run SCRIPT [--sample N] [--order K] [--stats] | check SCRIPT | generate SEED ROWS FILE¶
-check s.txs§§s.txs:csv("in.csv").withColumn("s", lambda x: x["a"] + x["b"]).tocsv("out.csv")§in.csv:a,b¶1,2¶3,4¶ => 2§§-§-§§usage: tuplex run SCRIPT [--sample N] [--order K] [--stats] | check SCRIPT | generate SEED ROWS FILE¶
-generate 1 100 out.csv§§s.txs:csv("in.csv").withColumn("s", lambda x: x["a"] + x["b"]).tocsv("out.csv")§in.csv:a,b¶1,2¶3,4¶ => 2§§-§-§§usage: tuplex run SCRIPT [--sample N] [--order K] [--stats] | check SCRIPT | generate SEED ROWS FILE¶
+check s.txs§§s.txs:csv("in.csv").withColumn("s", lambda x: x["a"] + x["b"]).tocsv("out.csv")§in.csv:a,b¶1,2¶3,4¶ => 0§§-§-§accepted¶§
+generate 1 x out.csv§§s.txs:csv("in.csv").withColumn("s", lambda x: x["a"] + x["b"]).tocsv("out.csv")§in.csv:a,b¶1,2¶3,4¶ => 2§§-§-§§usage: tuplex run SCRIPT [--sample N] [--order K] [--stats] | check SCRIPT | generate SEED ROWS FILE¶
 # columns: the first absent name by operator, and a name that is no ASCII
 run s.txs§§s.txs:csv("in.csv").selectColumns(["é"]).renameColumn("b", "c").tocsv("out.csv")§in.csv:a,b¶1,2¶3,4¶ => 4§§-§-§§tuplex: operator 2: no column é¶
 run s.txs§§s.txs:r = csv("r.csv")¶csv("l.csv").join(r, "q", "z").tocsv("out.csv")§l.csv:id,k¶1,7¶2,¶3,9¶§r.csv:k,v¶7,p¶,q¶7,r¶ => 4§§-§-§§tuplex: operator 3: no column q¶

@@ -3,7 +3,7 @@ use Rattle.tx_base.specs.declared.meter.Meter.{Meter}
 use Rattle.tx_place.specs.Place.{PlaceState}
 use Rattle.tx_place.specs.Console.{ConsoleState}
 use Rattle.tuplex_run.specs.Outside.{Outside, outside, at_start}
-use Rattle.tuplex_run.specs.Ends.{RunsPlainly, Ended}
+use Rattle.tuplex_run.specs.Ends.{RunsPlainly, Ended, OtherCommands}
 use Rattle.tuplex.proofs.run.Goals as goal
 
 -- counts that begin at 0
@@ -16,20 +16,18 @@ from_start P place console s m e a b h =
     subst (λ (n : ℕ). P (outside place console n (record { interp = 0; typed = 0 }))) e
     (subst (λ (n : Meter). P (outside place console s n)) (at_none m a b) h)
 
-pub returns-clause-headline : goal.returns-clause-headline
-returns-clause-headline g c =
-    let new = outside (g.P.Place.state c.run_words.new.place) (g.C.Console.state c.run_words.new.console) c.run_words.new.steps c.run_words.new.meter in (
+pub returns-clause-ends : goal.returns-clause-ends
+returns-clause-ends g c =
+    let place = g.P.Place.state c.args.place.now in
+    let console = g.C.Console.state c.args.console.now in
+    let new = outside (g.P.Place.state c.run_words.new.place) (g.C.Console.state c.run_words.new.console) c.run_words.new.steps c.run_words.new.meter in
+    let at : (P : Outside → Type 0) → P (outside place console c.open-steps.result c.new-meter.result) → P (at_start place console) =
+    λ P h. from_start P place console c.open-steps.result c.new-meter.result c.open-steps.ensures c.new-meter.ensures.interp c.new-meter.ensures.typed h in (
       c.run_words.new.steps,
       c.run_words.new.meter,
-      from_start (λ old. RunsPlainly c.args.words.now old new c.run_words.result) (g.P.Place.state c.args.place.now) (g.C.Console.state c.args.console.now)
-          c.open-steps.result c.new-meter.result c.open-steps.ensures c.new-meter.ensures.interp c.new-meter.ensures.typed c.run_words.ensures.headline,
-    )
-
-pub returns-clause-ended : goal.returns-clause-ended
-returns-clause-ended g c =
-    let new = outside (g.P.Place.state c.run_words.new.place) (g.C.Console.state c.run_words.new.console) c.run_words.new.steps c.run_words.new.meter in (
-      c.run_words.new.steps,
-      c.run_words.new.meter,
-      from_start (λ old. Ended c.args.words.now old new c.run_words.result) (g.P.Place.state c.args.place.now) (g.C.Console.state c.args.console.now)
-          c.open-steps.result c.new-meter.result c.open-steps.ensures c.new-meter.ensures.interp c.new-meter.ensures.typed c.run_words.ensures.ended,
+      (
+        at (λ old. RunsPlainly c.args.words.now old new c.run_words.result) c.run_words.ensures.headline,
+        at (λ old. Ended c.args.words.now old new c.run_words.result) c.run_words.ensures.ended,
+        λ t. at (λ old. OtherCommands c.args.words.now old new c.run_words.result) (c.run_words.ensures.others t),
+      ),
     )

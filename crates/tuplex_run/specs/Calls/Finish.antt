@@ -20,7 +20,7 @@ WriteRefusal names old new (WriteFault name) =
 WriteRefusal names old new NoMemory = Unit {0}
 WriteRefusal names old new _ = ⊥
 
--- why an accepted run ended so
+-- why an accepted command ended so
 abbrev pub FinishCause : Accepted → PlaceState → PlaceState → ConsoleState → ConsoleState → Outcome → Type 0
 FinishCause run old new was now (Done rows reported) =
     (rows ≡ run.rows) × (reported ≡ run.reported)
@@ -31,7 +31,7 @@ FinishCause run old new was now ConsoleFault = NoWriteFailed old new × Rose was
 FinishCause run old new was now NoMemory = Unit {0}
 FinishCause run old new was now _ = ⊥
 
--- the files of an accepted run
+-- the files of an accepted command
 abbrev pub FilesLeft : List (List ℕ × List ℕ) → Held → Held → Outcome → Type 0
 FilesLeft writes old new (Done rows reported) = new ≡ written writes old
 FilesLeft writes old new (WriteFault name) = IsWrittenPartly writes old new

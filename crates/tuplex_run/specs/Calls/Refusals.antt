@@ -9,11 +9,13 @@ use Rattle.tx_records.specs.declared.csv_source.CsvSource.{CsvSource}
 use Rattle.tx_pipe.specs.Pipe.{Name, Operation, source_file, PipeNode}
 use Rattle.tx_script.specs.Linked.{Pipe}
 use Rattle.tx_script.specs.Accepted.{Refused}
-use Rattle.tuplex_run.specs.Words.{script_of}
+use Rattle.tx_words.specs.Words.{command_of}
+use Rattle.tx_words.specs.declared.command.Command.{Command}
+use Rattle.tuplex_run.specs.Words.{script_in}
 use Rattle.tuplex_run.specs.Deed.{Deed}
 use Rattle.tuplex_run.specs.Inputs.{OrRefusal, source_in, input_in, inputs_in, input_names, inputs_read}
-use Rattle.tuplex_run.specs.Due.{IsVerdict, IsReadBy, pipe_of_script}
-use Rattle.tuplex_run.specs.Calls.Accept.{verdict_on_pipe}
+use Rattle.tuplex_run.specs.Due.{on_script, on_command, IsVerdict, IsReadFor, IsReadBy, pipe_of_script}
+use Rattle.tuplex_run.specs.Calls.Accept.{ready_on_pipe}
 use Rattle.tuplex_run.specs.declared.outcome.Outcome.{Outcome}
 use Rattle.tuplex_run.specs.declared.outcome.Outcome.TheVariants.{Words, Script, Columns, TooLarge, ReadFault, NoMemory}
 
@@ -100,12 +102,12 @@ abbrev pub RefusalSteps : Type 0 → (Deed → Type 0) → ℕ → ℕ → Outco
 RefusalSteps known IsIt old new NoMemory = known → (new ≡ old) ⊎ ((deed : Deed) × IsIt deed × (new ≤ old + deed.evaluations))
 RefusalSteps known IsIt old new _ = new ≡ old
 
--- why a run was refused once its script was accepted
+-- why the files of a script were refused once it was accepted
 abbrev pub PipeRefusal : Pipe → PlaceState → PlaceState → Outcome → Type 0
 PipeRefusal pipe old new (Columns fault) =
-    NoReadFailed old new × (old.tells ≡ true → IsRefused (verdict_on_pipe old.held pipe) (Columns fault))
+    NoReadFailed old new × (old.tells ≡ true → IsRefused (ready_on_pipe old.held pipe) (Columns fault))
 PipeRefusal pipe old new (TooLarge name) =
-    NoReadFailed old new × (old.tells ≡ true → IsRefused (verdict_on_pipe old.held pipe) (TooLarge name))
+    NoReadFailed old new × (old.tells ≡ true → IsRefused (ready_on_pipe old.held pipe) (TooLarge name))
 PipeRefusal pipe old new (ReadFault name) =
     IsReadFault name old new × (old.tells ≡ true → Contains (inputs_read (input_names pipe) old.held) name)
 PipeRefusal pipe old new NoMemory = Unit {0}
@@ -125,15 +127,49 @@ ScriptRefusal script old new (ReadFault name) = (name ≡ script) × IsReadFault
 ScriptRefusal script old new NoMemory = Unit {0}
 ScriptRefusal script old new _ = ⊥
 
--- ---- all of them
+-- ---- a script with its files
+
+-- the refusal of a script with its files is due, and no read failed
+abbrev pub RefusesScript : List ℕ → PlaceState → PlaceState → Outcome → Type 0
+RefusesScript script old new refusal = NoReadFailed old new × (old.tells ≡ true → on_script script old.held (inl refusal))
+
+-- why a script or its files were refused
+abbrev pub PreparedRefusal : List ℕ → PlaceState → PlaceState → Outcome → Type 0
+PreparedRefusal script old new (Script fault) = RefusesScript script old new (Script fault)
+PreparedRefusal script old new (Columns fault) = RefusesScript script old new (Columns fault)
+PreparedRefusal script old new (TooLarge name) = RefusesScript script old new (TooLarge name)
+PreparedRefusal script old new (ReadFault name) = IsReadFault name old new × (old.tells ≡ true → IsReadFor script old.held name)
+PreparedRefusal script old new NoMemory = Unit {0}
+PreparedRefusal script old new _ = ⊥
+
+-- ---- a command
+
+-- a file that a command reads
+abbrev pub IsReadIn : Command → Held → List ℕ → Type 0
+IsReadIn command held name = (script : Text) × (script_in command ≡ Some script) × IsReadFor script held name
+
+-- the refusal of a command is due, and no read failed
+abbrev pub RefusesCommand : Command → PlaceState → PlaceState → Outcome → Type 0
+RefusesCommand command old new refusal = NoReadFailed old new × (old.tells ≡ true → on_command old.held command (inl refusal))
+
+-- why a command was refused
+abbrev pub CommandRefusal : Command → PlaceState → PlaceState → Outcome → Type 0
+CommandRefusal command old new (Script fault) = RefusesCommand command old new (Script fault)
+CommandRefusal command old new (Columns fault) = RefusesCommand command old new (Columns fault)
+CommandRefusal command old new (TooLarge name) = RefusesCommand command old new (TooLarge name)
+CommandRefusal command old new (ReadFault name) = IsReadFault name old new × (old.tells ≡ true → IsReadIn command old.held name)
+CommandRefusal command old new NoMemory = Unit {0}
+CommandRefusal command old new _ = ⊥
+
+-- ---- the words
 
 -- the refusal is due, and no read failed
 abbrev pub RefusesDue : List (List ℕ) → PlaceState → PlaceState → Outcome → Type 0
 RefusesDue words old new refusal = NoReadFailed old new × (old.tells ≡ true → IsVerdict words old.held (inl refusal))
 
--- why a command was refused
+-- why the words were refused
 abbrev pub Refusal : List (List ℕ) → PlaceState → PlaceState → Outcome → Type 0
-Refusal words old new Words = (script_of words ≡ None) × NoReadFailed old new
+Refusal words old new Words = (command_of words ≡ None) × NoReadFailed old new
 Refusal words old new (Script fault) = RefusesDue words old new (Script fault)
 Refusal words old new (Columns fault) = RefusesDue words old new (Columns fault)
 Refusal words old new (TooLarge name) = RefusesDue words old new (TooLarge name)

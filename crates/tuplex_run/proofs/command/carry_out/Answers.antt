@@ -15,4 +15,4 @@ returns-in-Ok-clause-ended g c =
     let f = c.finish.ensures in
     finished_ended c.args.words.now (g.P.Place.state c.args.place.now) (g.P.Place.state c.accept.new.place) (g.P.Place.state c.finish.new.place)
     (g.C.Console.state c.args.console.now) (g.C.Console.state c.finish.new.console) c.in-Ok.run' c.args.steps.now c.accept.new.steps c.args.meter.now c.accept.new.meter
-    e.only e.still f.telling f.reads e.accepted e.counts c.finish.result f.cause e.asked f.stands f.said f.named
+    e.only e.still f.telling f.reads e.accepted e.counts c.requires.interp c.requires.typed c.finish.result f.cause e.asked f.stands f.said f.named

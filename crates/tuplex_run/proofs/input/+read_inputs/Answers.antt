@@ -1,4 +1,4 @@
-use Rattle.std.proofs.Common.{◌≡◌, ◌∙◌}
+use Rattle.std.proofs.Common.{◌∙◌}
 use Rattle.std.proofs.lemmas.Result.{IfErr-weaker, on_ok_weaker}
 use Rattle.tuplex_run.proofs.Inputs.{split, at_first, at_rest, failed_first, failed_rest, all_added}
 use Rattle.tuplex_run.proofs.input.+read_inputs.Goals as goal

@@ -1,6 +1,6 @@
 use Rattle.std.proofs.Common.{◌≡◌, drop}
 use Rattle.tx_pipe.specs.Pipe.{pipe_of}
-use Rattle.tuplex_run.specs.Run.{output_name}
+use Rattle.tuplex_run.specs.Commands.{output_name}
 use Rattle.tuplex_run.proofs.work.output_name.Given as goal
 
 abbrev pub invariant-loop-node : goal.invariant-loop-node
