@@ -5,6 +5,7 @@ mod keys;
 mod limits;
 mod lookup;
 mod order;
+mod row;
 mod rows;
 mod same;
 mod written;

@@ -1,9 +1,9 @@
 // Texts without whitespace, or without some characters, at their ends. One row has each character that `str.isspace` is
 // true of at both ends.
-use crate::tests::row::{cell, each_row_holds, is, own};
+use crate::tests::row::{cell, each_row_holds, is};
 use std::alloc::Global;
-use std::test::Fail;
-use tx_text::{NoMemory, PyText, Side};
+use std::process::Abort;
+use tx_text::{PyText, Side};
 
 /// A method, a text, the characters that are taken off, `~` for whitespace, and what is left.
 const ROWS: &str = "\
@@ -86,23 +86,20 @@ fn side(method: &str) -> Side {
     }
 }
 
-// A text without these characters at a side.
-fn stripped(alloc: Global, text: &PyText, side: Side, of: &str) -> Result<PyText, NoMemory> {
-    if of == "~" {
-        return text.strip(side, None);
-    }
-    text.strip(side, Some(&own(alloc, of)?))
-}
-
 /// Whether the method of a row leaves its text.
-pub(crate) fn end_holds(alloc: Global, row: &str) -> Result<bool, NoMemory> {
-    let text = own(alloc, cell(row, 1))?;
-    let left = stripped(alloc, &text, side(cell(row, 0)), cell(row, 2))?;
-    is(alloc, &left, cell(row, 3))
+pub(crate) fn end_holds(
+    rt: &impl Abort,
+    alloc: Global,
+    text: &PyText,
+    of: &PyText,
+    row: &str,
+) -> bool {
+    let of = if cell(row, 2) == "~" { None } else { Some(of) };
+    let left = text.strip(side(cell(row, 0)), of).expect(rt, "memory");
+    is(rt, alloc, &left, cell(row, 3))
 }
 
 #[test]
-fn ends_hold(rt: HostRuntime) -> Result<(), Fail> {
-    each_row_holds(&rt, rt.alloc(), ROWS, 68)?;
-    Ok(())
+fn ends_hold(rt: HostRuntime) {
+    each_row_holds(&rt, rt.alloc(), ROWS, 68);
 }

@@ -1,8 +1,8 @@
 // The calls that make a text of texts, within a limit that is just reached, or passed by one.
 use crate::tests::row::{cell, each_row_holds, is, letter, number, own};
 use std::alloc::Global;
-use std::test::Fail;
-use tx_text::{Long, NoMemory, PyText};
+use std::process::Abort;
+use tx_text::{Long, PyText};
 
 /// A method, a text, what goes into it (a text; how often; parts with `|` between them; a width; a part, `>` and what
 /// stands in its place), the new text, `~` where it is past the limit, and the limit, where there is one.
@@ -82,43 +82,54 @@ replace;ab;c>x;~;1
 ";
 
 // The parts of a cell joined by a text.
-fn joined(alloc: Global, sep: &PyText, parts: &str, most: usize) -> Result<PyText, Long> {
-    let parts = own(alloc, parts)?.split_on(&letter(alloc, '|')?)?;
+fn joined(
+    rt: &impl Abort,
+    alloc: Global,
+    sep: &PyText,
+    parts: &PyText,
+    most: usize,
+) -> Result<PyText, Long> {
+    let parts = parts.split_on(&letter(rt, alloc, '|')).expect(rt, "memory");
     sep.join(&parts, most)
 }
 
 // A text with a part replaced.
-fn replaced(alloc: Global, text: &PyText, pair: &str, most: usize) -> Result<PyText, Long> {
+fn replaced(
+    rt: &impl Abort,
+    alloc: Global,
+    text: &PyText,
+    pair: &str,
+    most: usize,
+) -> Result<PyText, Long> {
     let (old, new) = pair.split_once('>').unwrap_or((pair, ""));
-    text.replace(&own(alloc, old)?, &own(alloc, new)?, most)
-}
-
-// What the method of a row makes of its text.
-fn made(alloc: Global, text: &PyText, row: &str) -> Result<PyText, Long> {
-    let other = cell(row, 2);
-    let times = number(other).unwrap_or(0);
-    let most = number(cell(row, 4)).unwrap_or(usize::MAX);
-    match cell(row, 0) {
-        "concat" => text.concat(&own(alloc, other)?, most),
-        "repeat" => text.repeat(times, most),
-        "join" => joined(alloc, text, other, most),
-        "zfill" => text.zfill(times, most),
-        _ => replaced(alloc, text, other, most),
-    }
+    text.replace(&own(rt, alloc, old), &own(rt, alloc, new), most)
 }
 
 /// Whether the method of a row makes its text.
-pub(crate) fn made_holds(alloc: Global, row: &str) -> Result<bool, NoMemory> {
-    let text = own(alloc, cell(row, 1))?;
-    match made(alloc, &text, row) {
-        Ok(text) => is(alloc, &text, cell(row, 3)),
-        Err(Long::TooLong) => Ok(cell(row, 3) == "~"),
-        Err(Long::NoMemory) => Err(NoMemory),
+pub(crate) fn made_holds(
+    rt: &impl Abort,
+    alloc: Global,
+    text: &PyText,
+    other: &PyText,
+    row: &str,
+) -> bool {
+    let times = number(cell(row, 2)).unwrap_or(0);
+    let most = number(cell(row, 4)).unwrap_or(usize::MAX);
+    let made = match cell(row, 0) {
+        "concat" => text.concat(other, most),
+        "repeat" => text.repeat(times, most),
+        "join" => joined(rt, alloc, text, other, most),
+        "zfill" => text.zfill(times, most),
+        _ => replaced(rt, alloc, text, cell(row, 2), most),
+    };
+    match made {
+        Ok(text) => is(rt, alloc, &text, cell(row, 3)),
+        Err(Long::TooLong) => cell(row, 3) == "~",
+        Err(Long::NoMemory) => false,
     }
 }
 
 #[test]
-fn made_texts_hold(rt: HostRuntime) -> Result<(), Fail> {
-    each_row_holds(&rt, rt.alloc(), ROWS, 72)?;
-    Ok(())
+fn made_texts_hold(rt: HostRuntime) {
+    each_row_holds(&rt, rt.alloc(), ROWS, 72);
 }

@@ -1,8 +1,8 @@
 // Texts in capitals and in small letters, characters at places, and parts between places.
-use crate::tests::row::{cell, each_row_holds, is, letter, number, own};
+use crate::tests::row::{cell, each_row_holds, is, letter, number};
 use std::alloc::Global;
-use std::test::Fail;
-use tx_text::{NoMemory, PyText};
+use std::process::Abort;
+use tx_text::PyText;
 
 /// A method, a text, a place or two as Python writes them, and the text or character; `~` where there is none, as where
 /// the profile leaves a character out.
@@ -59,40 +59,39 @@ slice;ß€;5:7;
 ";
 
 // The part of a text between two places.
-fn part(text: &PyText, places: &str) -> Result<PyText, NoMemory> {
+fn part(rt: &impl Abort, text: &PyText, places: &str) -> PyText {
     let (from, to) = places.split_once(':').unwrap_or((places, ""));
     text.slice(number(from).unwrap_or(0), number(to).unwrap_or(usize::MAX))
+        .expect(rt, "memory")
 }
 
 // The text of the character at a place.
-fn character(alloc: Global, text: &PyText, place: &str) -> Result<Option<PyText>, NoMemory> {
+fn character(rt: &impl Abort, alloc: Global, text: &PyText, place: &str) -> Option<PyText> {
     match text.char_at(number(place).unwrap_or(0)) {
-        Some(c) => Ok(Some(letter(alloc, c)?)),
-        None => Ok(None),
+        Some(c) => Some(letter(rt, alloc, c)),
+        None => None,
     }
 }
 
 // What the method of a row makes of its text.
-fn made(alloc: Global, text: &PyText, row: &str) -> Result<Option<PyText>, NoMemory> {
+fn made(rt: &impl Abort, alloc: Global, text: &PyText, row: &str) -> Option<PyText> {
     match cell(row, 0) {
-        "upper" => text.upper(),
-        "lower" => text.lower(),
-        "slice" => Ok(Some(part(text, cell(row, 2))?)),
-        _ => character(alloc, text, cell(row, 2)),
+        "upper" => text.upper().expect(rt, "memory"),
+        "lower" => text.lower().expect(rt, "memory"),
+        "slice" => Some(part(rt, text, cell(row, 2))),
+        _ => character(rt, alloc, text, cell(row, 2)),
     }
 }
 
 /// Whether the method of a row gives its text.
-pub(crate) fn part_holds(alloc: Global, row: &str) -> Result<bool, NoMemory> {
-    let text = own(alloc, cell(row, 1))?;
-    match made(alloc, &text, row)? {
-        Some(part) => is(alloc, &part, cell(row, 3)),
-        None => Ok(cell(row, 3) == "~"),
+pub(crate) fn part_holds(rt: &impl Abort, alloc: Global, text: &PyText, row: &str) -> bool {
+    match made(rt, alloc, text, row) {
+        Some(part) => is(rt, alloc, &part, cell(row, 3)),
+        None => cell(row, 3) == "~",
     }
 }
 
 #[test]
-fn parts_hold(rt: HostRuntime) -> Result<(), Fail> {
-    each_row_holds(&rt, rt.alloc(), ROWS, 49)?;
-    Ok(())
+fn parts_hold(rt: HostRuntime) {
+    each_row_holds(&rt, rt.alloc(), ROWS, 49);
 }

@@ -1,8 +1,8 @@
 // Pieces between separators, and words. One row has each character that `str.isspace` is true of between two letters.
-use crate::tests::row::{cell, each_row_holds, own};
+use crate::tests::row::{cell, each_row_holds};
 use std::alloc::Global;
-use std::test::Fail;
-use tx_text::{NoMemory, PyText, Texts};
+use std::process::Abort;
+use tx_text::{PyText, Texts};
 
 /// A method, a text, a separator, and the pieces, with `|` in front of each.
 const ROWS: &str = "\
@@ -42,33 +42,35 @@ split_blank;x\u{FEFF}y;;|x\u{FEFF}y
 ";
 
 // The pieces of a text by the method of a row.
-fn cut(alloc: Global, text: &PyText, row: &str) -> Result<Texts, NoMemory> {
-    let sep = own(alloc, cell(row, 2))?;
+fn cut(rt: &impl Abort, text: &PyText, sep: &PyText) -> Texts {
     if sep.len() == 0 {
-        return text.split_blank();
+        return text.split_blank().expect(rt, "memory");
     }
-    text.split_on(&sep)
+    text.split_on(sep).expect(rt, "memory")
 }
 
 // A list of texts as a row has it.
-fn written(alloc: Global, pieces: &Texts) -> Result<PyText, NoMemory> {
+fn written(rt: &impl Abort, alloc: Global, pieces: &Texts) -> PyText {
     let mut all = PyText::new(alloc);
     for piece in pieces.as_slice() {
-        all.push('|')?;
-        all.push_str(piece.as_str())?;
+        all.push('|').expect(rt, "memory");
+        all.push_str(piece.as_str()).expect(rt, "memory");
     }
-    Ok(all)
+    all
 }
 
 /// Whether the method of a row gives its pieces.
-pub(crate) fn pieces_hold(alloc: Global, row: &str) -> Result<bool, NoMemory> {
-    let text = own(alloc, cell(row, 1))?;
-    let pieces = cut(alloc, &text, row)?;
-    Ok(written(alloc, &pieces)?.as_str() == cell(row, 3))
+pub(crate) fn pieces_hold(
+    rt: &impl Abort,
+    alloc: Global,
+    text: &PyText,
+    sep: &PyText,
+    row: &str,
+) -> bool {
+    written(rt, alloc, &cut(rt, text, sep)).as_str() == cell(row, 3)
 }
 
 #[test]
-fn pieces_hold_row_by_row(rt: HostRuntime) -> Result<(), Fail> {
-    each_row_holds(&rt, rt.alloc(), ROWS, 33)?;
-    Ok(())
+fn pieces_hold_row_by_row(rt: HostRuntime) {
+    each_row_holds(&rt, rt.alloc(), ROWS, 33);
 }

@@ -1,8 +1,6 @@
 // Lengths, first and last places, and how often a part stands in a text.
-use crate::tests::row::{cell, each_row_holds, number, own};
-use std::alloc::Global;
-use std::test::Fail;
-use tx_text::NoMemory;
+use crate::tests::row::{cell, each_row_holds, number};
+use tx_text::PyText;
 
 /// A method, a text, a part of it, and the number.
 const ROWS: &str = "\
@@ -75,20 +73,17 @@ count;e\u{301};é;0
 ";
 
 /// Whether the method of a row gives its number.
-pub(crate) fn number_holds(alloc: Global, row: &str) -> Result<bool, NoMemory> {
-    let text = own(alloc, cell(row, 1))?;
-    let part = own(alloc, cell(row, 2))?;
+pub(crate) fn number_holds(text: &PyText, part: &PyText, row: &str) -> bool {
     let found = match cell(row, 0) {
         "len" => Some(text.len()),
-        "find" => text.find(&part),
-        "rfind" => text.rfind(&part),
-        _ => Some(text.count(&part)),
+        "find" => text.find(part),
+        "rfind" => text.rfind(part),
+        _ => Some(text.count(part)),
     };
-    Ok(found == number(cell(row, 3)))
+    found == number(cell(row, 3))
 }
 
 #[test]
-fn searches_hold(rt: HostRuntime) -> Result<(), Fail> {
-    each_row_holds(&rt, rt.alloc(), ROWS, 66)?;
-    Ok(())
+fn searches_hold(rt: HostRuntime) {
+    each_row_holds(&rt, rt.alloc(), ROWS, 66);
 }

@@ -2,9 +2,8 @@
 // text is written `¶`. The answers are CPython's, except where a number is past 128 bits or a text out of the profile.
 use std::alloc::Global;
 use std::process::Abort;
-use std::test::Fail;
 use tx_num::{Division, IntRead, add, floor_div, floor_mod, mul, neg, print_int, read_int, sub};
-use tx_text::{NoMemory, PyText};
+use tx_text::PyText;
 
 /// Texts, and the integers that they are read as: forms, the ends of 128 bits, long texts, and texts out of the profile.
 const READS: &str = "\
@@ -160,14 +159,14 @@ fn number(cell: &str) -> Option<i128> {
 }
 
 // The text of a cell.
-fn own(alloc: Global, cell: &str) -> Result<PyText, NoMemory> {
+fn own(rt: &impl Abort, alloc: Global, cell: &str) -> PyText {
     let mut lines = cell.split('¶');
-    let mut text = PyText::from_str(alloc, lines.next().unwrap_or(""))?;
+    let mut text = PyText::from_str(alloc, lines.next().unwrap_or("")).expect(rt, "memory");
     for line in lines {
-        text.push('\n')?;
-        text.push_str(line)?;
+        text.push('\n').expect(rt, "memory");
+        text.push_str(line).expect(rt, "memory");
     }
-    Ok(text)
+    text
 }
 
 fn is_read(read: IntRead, cell: &str) -> bool {
@@ -207,56 +206,47 @@ fn result_holds(call: &str, a: i128, b: i128, answer: &str) -> bool {
     }
 }
 
+fn is_printed(rt: &impl Abort, alloc: Global, n: i128, text: &str) -> bool {
+    print_int(alloc, n).expect(rt, "memory").as_str() == text
+}
+
 // Whether a row holds.
-fn holds(alloc: Global, row: &str) -> Result<bool, NoMemory> {
+fn holds(rt: &impl Abort, alloc: Global, row: &str) -> bool {
     let (call, given) = (cell(row, 0), cell(row, 1));
-    if call == "int" {
-        return Ok(is_read(read_int(&own(alloc, given)?), cell(row, 2)));
+    let (a, b) = (number(given), number(cell(row, 2)));
+    match call {
+        "int" => is_read(read_int(&own(rt, alloc, given)), cell(row, 2)),
+        "str" => is_printed(rt, alloc, a.unwrap_or(0), cell(row, 2)),
+        _ => result_holds(call, a.unwrap_or(0), b.unwrap_or(0), cell(row, 3)),
     }
-    let a = number(given).unwrap_or(0);
-    if call == "str" {
-        return Ok(print_int(alloc, a)?.as_str() == cell(row, 2));
-    }
-    let b = number(cell(row, 2)).unwrap_or(0);
-    Ok(result_holds(call, a, b, cell(row, 3)))
 }
 
 // Asserts that each row of a table holds, and that there are so many.
-fn each_row_holds(
-    rt: &impl Abort,
-    alloc: Global,
-    table: &str,
-    rows: usize,
-) -> Result<(), NoMemory> {
+fn each_row_holds(rt: &impl Abort, alloc: Global, table: &str, rows: usize) {
     let mut tried = 0usize;
     for row in table.lines() {
-        assert!(rt; holds(alloc, row)?, "{row}");
+        assert!(rt; holds(rt, alloc, row), "{row}");
         tried = tried.wrapping_add(1);
     }
     assert!(rt; tried == rows, "{tried} rows");
-    Ok(())
 }
 
 #[test]
-fn texts_are_read_as_integers(rt: HostRuntime) -> Result<(), Fail> {
-    each_row_holds(&rt, rt.alloc(), READS, 62)?;
-    Ok(())
+fn texts_are_read_as_integers(rt: HostRuntime) {
+    each_row_holds(&rt, rt.alloc(), READS, 62);
 }
 
 #[test]
-fn division_rounds_down(rt: HostRuntime) -> Result<(), Fail> {
-    each_row_holds(&rt, rt.alloc(), DIVISIONS, 52)?;
-    Ok(())
+fn division_rounds_down(rt: HostRuntime) {
+    each_row_holds(&rt, rt.alloc(), DIVISIONS, 52);
 }
 
 #[test]
-fn results_end_at_128_bits(rt: HostRuntime) -> Result<(), Fail> {
-    each_row_holds(&rt, rt.alloc(), ENDS, 9)?;
-    Ok(())
+fn results_end_at_128_bits(rt: HostRuntime) {
+    each_row_holds(&rt, rt.alloc(), ENDS, 9);
 }
 
 #[test]
-fn integers_are_printed(rt: HostRuntime) -> Result<(), Fail> {
-    each_row_holds(&rt, rt.alloc(), PRINTS, 4)?;
-    Ok(())
+fn integers_are_printed(rt: HostRuntime) {
+    each_row_holds(&rt, rt.alloc(), PRINTS, 4);
 }

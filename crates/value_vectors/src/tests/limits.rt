@@ -1,59 +1,58 @@
-use crate::tests::written::{cell, value_at};
+use crate::tests::row::each_row_holds;
 use std::alloc::Global;
-use std::test::Fail;
+use std::process::Abort;
 use tx_base::Class;
-use tx_text::{Long, NoMemory, PyText};
+use tx_text::PyText;
 use tx_values::{Items, MOST_DEPTH, MOST_WEIGHT, Value, depth, made, weight};
 
 // A value, its weight and its depth.
-const LIMITS: &str = "
-None ; 0 ; 0
-True ; 0 ; 0
-7 ; 0 ; 0
-'\u{20ac}' ; 1 ; 0
-[ ] ; 0 ; 1
-( ) ; 0 ; 1
-{ } ; 0 ; 1
-[ '\u{20ac}' , 7 ] ; 3 ; 1
-{ 'k' : 'v' , 1 : None } ; 4 ; 1
-( [ 7 ] , None ) ; 3 ; 2
-{ 'k' : [ 'v' , None ] } ; 5 ; 2
-{ ( None , ) : None } ; 2 ; 2
-[ [ [ ] ] ] ; 2 ; 3";
+const LIMITS: &str = "\
+None ; weight, depth ; 0 ; 0
+True ; weight, depth ; 0 ; 0
+7 ; weight, depth ; 0 ; 0
+'\u{20ac}' ; weight, depth ; 1 ; 0
+[ ] ; weight, depth ; 0 ; 1
+( ) ; weight, depth ; 0 ; 1
+{ } ; weight, depth ; 0 ; 1
+[ '\u{20ac}' , 7 ] ; weight, depth ; 3 ; 1
+{ 'k' : 'v' , 1 : None } ; weight, depth ; 4 ; 1
+( [ 7 ] , None ) ; weight, depth ; 3 ; 2
+{ 'k' : [ 'v' , None ] } ; weight, depth ; 5 ; 2
+{ ( None , ) : None } ; weight, depth ; 2 ; 2
+[ [ [ ] ] ] ; weight, depth ; 2 ; 3
+";
 
-fn measures(alloc: Global, row: &str) -> Result<bool, NoMemory> {
-    let value = value_at(alloc, row, 0)?;
-    let weighs = cell(row, 1).parse::<u64>().ok() == Some(weight(&value));
-    Ok(weighs && cell(row, 2).parse::<u32>().ok() == Some(depth(&value)))
+/// Whether a value has the weight and the depth of a row.
+pub(crate) fn measures(value: &Value, heavy: &str, deep: &str) -> bool {
+    heavy.parse::<u64>().ok() == Some(weight(value))
+        && deep.parse::<u32>().ok() == Some(depth(value))
 }
 
 #[test]
 fn values_have_a_weight_and_a_depth(rt: HostRuntime) {
-    let mut rows = 0usize;
-    for row in LIMITS.lines().skip(1) {
-        assert!(rt; measures(rt.alloc(), row) == Ok(true), "{row}");
-        rows = rows.wrapping_add(1);
-    }
-    assert!(rt; rows == 13);
+    each_row_holds(&rt, rt.alloc(), LIMITS, 13);
+}
+
+fn list_of(rt: &impl Abort, alloc: Global, item: Value) -> Value {
+    let mut items = Items::new(alloc);
+    items.push(item).expect(rt, "memory");
+    Value::List(items)
 }
 
 // A list of one text of so many characters.
-fn heavy(alloc: Global, characters: usize) -> Result<Value, Long> {
-    let letters = PyText::from_str(alloc, "x")?.repeat(characters, characters)?;
-    let mut items = Items::new(alloc);
-    items.push(Value::Text(letters))?;
-    Ok(Value::List(items))
+fn heavy(rt: &impl Abort, alloc: Global, characters: usize) -> Value {
+    let letter = PyText::from_str(alloc, "x").expect(rt, "memory");
+    let letters = letter.repeat(characters, characters).expect(rt, "a text");
+    list_of(rt, alloc, Value::Text(letters))
 }
 
 // A list in lists, so deep.
-fn nested(alloc: Global, depth: u32) -> Result<Value, NoMemory> {
+fn nested(rt: &impl Abort, alloc: Global, depth: u32) -> Value {
     let mut value = Value::Nil;
     for _ in 0..depth {
-        let mut items = Items::new(alloc);
-        items.push(value)?;
-        value = Value::List(items);
+        value = list_of(rt, alloc, value);
     }
-    Ok(value)
+    value
 }
 
 fn is_refused(value: Value) -> bool {
@@ -61,12 +60,11 @@ fn is_refused(value: Value) -> bool {
 }
 
 #[test]
-fn what_is_made_is_within_the_limits(rt: HostRuntime) -> Result<(), Fail> {
+fn what_is_made_is_within_the_limits(rt: HostRuntime) {
     let alloc = rt.alloc();
     let most = MOST_WEIGHT as usize;
-    assert!(rt; !is_refused(heavy(alloc, most - 1)?));
-    assert!(rt; is_refused(heavy(alloc, most)?));
-    assert!(rt; !is_refused(nested(alloc, MOST_DEPTH)?));
-    assert!(rt; is_refused(nested(alloc, MOST_DEPTH + 1)?));
-    Ok(())
+    assert!(rt; !is_refused(heavy(&rt, alloc, most - 1)));
+    assert!(rt; is_refused(heavy(&rt, alloc, most)));
+    assert!(rt; !is_refused(nested(&rt, alloc, MOST_DEPTH)));
+    assert!(rt; is_refused(nested(&rt, alloc, MOST_DEPTH + 1)));
 }

@@ -1,11 +1,9 @@
-use crate::tests::written::{cell, value_at};
-use std::alloc::Global;
+use crate::tests::row::each_row_holds;
 use tx_base::Class;
-use tx_text::NoMemory;
-use tx_values::less;
+use tx_values::{Value, less};
 
 // Two values, and whether the first is before the second; `raises` where Python's `<` raises TypeError.
-const ORDER: &str = "
+const ORDER: &str = "\
 1 ; < ; 2
 2 ; >= ; 2
 True ; < ; 2
@@ -42,29 +40,24 @@ None ; raises ; 1
 [ 1 , [ 3 ] ] ; >= ; [ 1 , [ 2 ] ]
 [ 1 , [ 2 ] ] ; raises ; [ 1 , [ 'a' ] ]
 ( ( 1 , 2 ) , ) ; >= ; ( ( 1 , ) , None )
-( 1 , ( 2 , 'a' ) ) ; raises ; ( 1 , ( 2 , 3 ) )";
+( 1 , ( 2 , 'a' ) ) ; raises ; ( 1 , ( 2 , 3 ) )
+";
 
-// What a row says of its two values.
-fn answer(row: &str) -> Result<bool, Class> {
-    match cell(row, 1) {
+// What the word of a row says of its two values.
+fn answer(word: &str) -> Result<bool, Class> {
+    match word {
         "<" => Ok(true),
         ">=" => Ok(false),
         _ => Err(Class::TypeError),
     }
 }
 
-fn answers(alloc: Global, row: &str) -> Result<bool, NoMemory> {
-    let a = value_at(alloc, row, 0)?;
-    let b = value_at(alloc, row, 2)?;
-    Ok(less(&a, &b) == answer(row))
+/// Whether two values are ordered as the word between them says.
+pub(crate) fn is_ordered(a: &Value, word: &str, b: &Value) -> bool {
+    less(a, b) == answer(word)
 }
 
 #[test]
 fn values_are_ordered(rt: HostRuntime) {
-    let mut rows = 0usize;
-    for row in ORDER.lines().skip(1) {
-        assert!(rt; answers(rt.alloc(), row) == Ok(true), "{row}");
-        rows = rows.wrapping_add(1);
-    }
-    assert!(rt; rows == 37);
+    each_row_holds(&rt, rt.alloc(), ORDER, 37);
 }

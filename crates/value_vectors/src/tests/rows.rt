@@ -1,7 +1,7 @@
 use crate::tests::written::value_of;
 use std::alloc::Global;
-use std::test::Fail;
-use tx_text::{Bytes, NoMemory};
+use std::process::Abort;
+use tx_text::Bytes;
 use tx_values::{
     Items, Mark, Names, Naming, Origin, Origins, Row, RowLists, Rows, Value, copy_row, equal,
     key_of_items,
@@ -17,26 +17,31 @@ const RIGHT: Mark = Mark {
     number: 4_294_967_295,
 };
 
-fn origin_of(alloc: Global, marks: &[Mark]) -> Result<Origin, NoMemory> {
+fn put(rt: &impl Abort, origin: &mut Origin, mark: Mark) {
+    origin.push(mark).expect(rt, "memory");
+}
+
+fn joined_origin(rt: &impl Abort, alloc: Global) -> Origin {
     let mut origin = Origin::new(alloc);
-    for mark in marks {
-        origin.push(*mark)?;
-    }
-    Ok(origin)
+    put(rt, &mut origin, LEFT);
+    put(rt, &mut origin, RIGHT);
+    put(rt, &mut origin, LEFT);
+    origin
 }
 
 // The items of a list.
-fn cells_of(alloc: Global, text: &str) -> Result<Items, NoMemory> {
-    match value_of(alloc, text)? {
-        Value::List(items) => Ok(items),
-        _ => Ok(Items::new(alloc)),
+fn cells_of(rt: &impl Abort, alloc: Global, text: &str) -> Items {
+    match value_of(rt, alloc, text) {
+        Value::List(items) => items,
+        _ => Items::new(alloc),
     }
 }
 
-fn joined_row(alloc: Global) -> Result<Row, NoMemory> {
-    let origin = origin_of(alloc, [LEFT, RIGHT, LEFT].as_slice())?;
-    let cells = cells_of(alloc, "[ [ ( 'a' , 7 ) , None ] , None ]")?;
-    Ok(Row { cells, origin })
+fn joined_row(rt: &impl Abort, alloc: Global) -> Row {
+    Row {
+        cells: cells_of(rt, alloc, "[ [ ( 'a' , 7 ) , None ] , None ]"),
+        origin: joined_origin(rt, alloc),
+    }
 }
 
 // Whether two rows have equal cells and the same origin.
@@ -60,11 +65,9 @@ fn is_joined(row: &Row, joined: &Row) -> bool {
         && origin.get(3).is_none()
 }
 
-fn copied_twice(alloc: Global, row: &Row) -> Result<Rows, NoMemory> {
-    let mut rows = Rows::new(alloc);
-    rows.push(copy_row(alloc, row)?)?;
-    rows.push(copy_row(alloc, row)?)?;
-    Ok(rows)
+fn push_copy(rt: &impl Abort, alloc: Global, rows: &mut Rows, row: &Row) {
+    let copied = copy_row(alloc, row).expect(rt, "memory");
+    rows.push(copied).expect(rt, "memory");
 }
 
 // Whether a list of two rows has these two and no third.
@@ -73,14 +76,13 @@ fn has_two(rows: &Rows, row: &Row) -> bool {
     all && rows.len() == 2 && rows.get(2).is_none()
 }
 
-fn keeps_rows(alloc: Global) -> Result<bool, NoMemory> {
-    let row = joined_row(alloc)?;
-    Ok(has_two(&copied_twice(alloc, &row)?, &row))
-}
-
 #[test]
 fn rows_keep_cells_and_origins(rt: HostRuntime) {
-    assert!(rt; keeps_rows(rt.alloc()) == Ok(true));
+    let row = joined_row(&rt, rt.alloc());
+    let mut rows = Rows::new(rt.alloc());
+    push_copy(&rt, rt.alloc(), &mut rows, &row);
+    push_copy(&rt, rt.alloc(), &mut rows, &row);
+    assert!(rt; has_two(&rows, &row));
 }
 
 const MANY: u32 = 100_000;
@@ -92,20 +94,23 @@ fn mark(number: u32) -> Mark {
     }
 }
 
-fn numbered_row(alloc: Global, number: u32) -> Result<Row, NoMemory> {
+fn numbered_row(rt: &impl Abort, alloc: Global, number: u32) -> Row {
     let mut origin = Origin::new(alloc);
-    origin.push(mark(number))?;
+    put(rt, &mut origin, mark(number));
     let mut cells = Items::new(alloc);
-    cells.push(Value::Int(i128::from(number)))?;
-    Ok(Row { cells, origin })
+    cells
+        .push(Value::Int(i128::from(number)))
+        .expect(rt, "memory");
+    Row { cells, origin }
 }
 
-fn numbered_rows(alloc: Global, count: u32) -> Result<Rows, NoMemory> {
+fn numbered_rows(rt: &impl Abort, alloc: Global, count: u32) -> Rows {
     let mut rows = Rows::new(alloc);
     for number in 0..count {
-        rows.push(numbered_row(alloc, number)?)?;
+        rows.push(numbered_row(rt, alloc, number))
+            .expect(rt, "memory");
     }
-    Ok(rows)
+    rows
 }
 
 // Whether a row has the cell and the mark of this number, and its cells a key.
@@ -130,29 +135,33 @@ fn numbered_from_the_first(alloc: Global, rows: &Rows) -> u32 {
 }
 
 #[test]
-fn many_rows_are_kept_in_order(rt: HostRuntime) -> Result<(), Fail> {
-    let rows = numbered_rows(rt.alloc(), MANY)?;
-    assert_eq!(rt; numbered_from_the_first(rt.alloc(), &rows), MANY);
-    Ok(())
+fn many_rows_are_kept_in_order(rt: HostRuntime) {
+    let rows = numbered_rows(&rt, rt.alloc(), MANY);
+    assert!(rt; numbered_from_the_first(rt.alloc(), &rows) == MANY);
 }
 
-#[test]
-fn rows_and_origins_lie_in_lists(rt: HostRuntime) -> Result<(), Fail> {
-    let mut lists = RowLists::new(rt.alloc());
-    lists.push(Rows::new(rt.alloc()))?;
-    let mut origins = Origins::new(rt.alloc());
-    origins.push(Origin::new(rt.alloc()))?;
-    assert!(rt; lists.len() == 1 && origins.len() == 1);
-    Ok(())
+fn rows_lie_in_a_list(rt: &impl Abort, alloc: Global) -> bool {
+    let mut lists = RowLists::new(alloc);
+    lists.push(Rows::new(alloc)).expect(rt, "memory");
+    lists.len() == 1
 }
 
-#[test]
-fn names_lie_in_a_list(rt: HostRuntime) -> Result<(), Fail> {
-    let mut name = Bytes::new(rt.alloc());
-    name.push_all(b"qty")?;
-    let mut names = Names::new(rt.alloc());
-    names.push(name)?;
+fn origins_lie_in_a_list(rt: &impl Abort, alloc: Global) -> bool {
+    let mut origins = Origins::new(alloc);
+    origins.push(Origin::new(alloc)).expect(rt, "memory");
+    origins.len() == 1
+}
+
+fn names_lie_in_a_list(rt: &impl Abort, alloc: Global) -> bool {
+    let mut names = Names::new(alloc);
+    names.push(Bytes::new(alloc)).expect(rt, "memory");
     let naming = Naming { names: Some(names) };
-    assert!(rt; naming.names.is_some_and(|names| names.len() == 1));
-    Ok(())
+    naming.names.is_some_and(|names| names.len() == 1)
+}
+
+#[test]
+fn rows_origins_and_names_lie_in_lists(rt: HostRuntime) {
+    assert!(rt; rows_lie_in_a_list(&rt, rt.alloc()));
+    assert!(rt; origins_lie_in_a_list(&rt, rt.alloc()));
+    assert!(rt; names_lie_in_a_list(&rt, rt.alloc()));
 }

@@ -1,10 +1,10 @@
-use crate::tests::written::{cell, value_at};
+use crate::tests::row::each_row_holds;
 use std::alloc::Global;
-use tx_text::NoMemory;
+use std::process::Abort;
 use tx_values::{Pairs, Value, copy, equal, truthy};
 
 // Two values, and whether they are equal.
-const EQUALITY: &str = "
+const EQUALITY: &str = "\
 True ; == ; 1
 0 ; == ; False
 True ; != ; 2
@@ -44,79 +44,69 @@ None ; != ; 0
 ( { 'k' : [ ] } , ) ; == ; ( { 'k' : [ ] } , )
 { ( 1 , ) : [ 1 ] } ; == ; { ( True , ) : [ True ] }
 { ( 1 , ) : [ 1 ] } ; != ; { ( 1 , ) : ( 1 , ) }
-[ ( 1 , { 'k' : [ 0 ] } ) ] ; == ; [ ( True , { 'k' : [ False ] } ) ]";
+[ ( 1 , { 'k' : [ 0 ] } ) ] ; == ; [ ( True , { 'k' : [ False ] } ) ]
+";
 
-// Whether two values are equal, in both directions, the second one copied.
-fn equal_both_ways(alloc: Global, a: &Value, b: &Value) -> Result<(bool, bool), NoMemory> {
-    let copied = copy(alloc, b)?;
-    Ok((equal(a, b), equal(&copied, a)))
-}
-
-fn compares(alloc: Global, row: &str) -> Result<bool, NoMemory> {
-    let a = value_at(alloc, row, 0)?;
-    let b = value_at(alloc, row, 2)?;
-    let expected = cell(row, 1) == "==";
-    Ok(equal_both_ways(alloc, &a, &b)? == (expected, expected))
+/// Whether two values are equal, in both directions, the second one copied, exactly where a row says so.
+pub(crate) fn is_compared(
+    rt: &impl Abort,
+    alloc: Global,
+    a: &Value,
+    b: &Value,
+    answer: bool,
+) -> bool {
+    let copied = copy(alloc, b).expect(rt, "memory");
+    equal(a, b) == answer && equal(&copied, a) == answer
 }
 
 #[test]
 fn equal_values_are_found(rt: HostRuntime) {
-    let mut rows = 0usize;
-    for row in EQUALITY.lines().skip(1) {
-        assert!(rt; compares(rt.alloc(), row) == Ok(true), "{row}");
-        rows = rows.wrapping_add(1);
-    }
-    assert!(rt; rows == 40);
+    each_row_holds(&rt, rt.alloc(), EQUALITY, 40);
 }
 
 // A dictionary of so many pairs, whose keys rise.
-fn numbered_pairs(alloc: Global, count: i128) -> Result<Value, NoMemory> {
+fn numbered_pairs(rt: &impl Abort, alloc: Global, count: i128) -> Value {
     let mut pairs = Pairs::new(alloc);
     for number in 0..count {
-        pairs.push((Value::Int(number), Value::Nil))?;
+        pairs
+            .push((Value::Int(number), Value::Nil))
+            .expect(rt, "memory");
     }
-    Ok(Value::Dict(pairs))
+    Value::Dict(pairs)
 }
 
-// Whether so large a dictionary is equal to its copy. Comparing each pair with each would take hours.
-fn is_its_copy(alloc: Global, count: i128) -> Result<bool, NoMemory> {
-    let pairs = numbered_pairs(alloc, count)?;
-    Ok(equal(&pairs, &copy(alloc, &pairs)?))
-}
-
+// So large a dictionary is equal to its copy. Comparing each pair with each would take hours.
 #[test]
 fn large_dictionaries_of_one_order_are_compared_quickly(rt: HostRuntime) {
-    assert!(rt; is_its_copy(rt.alloc(), 100_000) == Ok(true));
+    let pairs = numbered_pairs(&rt, rt.alloc(), 100_000);
+    assert!(rt; is_compared(&rt, rt.alloc(), &pairs, &pairs, true));
 }
 
 // A value, and whether Python's `bool` says that it is true.
-const TRUTH: &str = "
-None ; False
-False ; False
-True ; True
-0 ; False
-1 ; True
--1 ; True
-'' ; False
-'a' ; True
-'0' ; True
-( ) ; False
-( None , ) ; True
-[ ] ; False
-[ 0 ] ; True
-{ } ; False
-{ 0 : 0 } ; True";
+const TRUTH: &str = "\
+None ; bool ; False
+False ; bool ; False
+True ; bool ; True
+0 ; bool ; False
+1 ; bool ; True
+-1 ; bool ; True
+'' ; bool ; False
+'a' ; bool ; True
+'0' ; bool ; True
+( ) ; bool ; False
+( None , ) ; bool ; True
+[ ] ; bool ; False
+[ 0 ] ; bool ; True
+{ } ; bool ; False
+{ 0 : 0 } ; bool ; True
+";
 
-fn counts_as(alloc: Global, row: &str) -> Result<bool, NoMemory> {
-    Ok(truthy(&value_at(alloc, row, 0)?) == (cell(row, 1) == "True"))
+/// Whether a value counts as a row says.
+pub(crate) fn counts_as(value: &Value, answer: &str) -> bool {
+    truthy(value) == (answer == "True")
 }
 
 #[test]
 fn values_have_their_truth(rt: HostRuntime) {
-    let mut rows = 0usize;
-    for row in TRUTH.lines().skip(1) {
-        assert!(rt; counts_as(rt.alloc(), row) == Ok(true), "{row}");
-        rows = rows.wrapping_add(1);
-    }
-    assert!(rt; rows == 15);
+    each_row_holds(&rt, rt.alloc(), TRUTH, 15);
 }

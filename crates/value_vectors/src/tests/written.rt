@@ -1,8 +1,8 @@
-// Values as a caller makes them. A table is a text with a case a row, `LEFT ; WORD ; RIGHT`; a value stands there as Python
-// writes it, with a blank between its tokens. What is expected is what CPython 3 answers, but for weight, depth and their
-// limits, which are rules of the language alone.
+// Values as a caller makes them. A value stands in a row as Python writes it, with a blank between its tokens. What is
+// expected is what CPython 3 answers, but for weight, depth and their limits, which are rules of the language alone.
 use std::alloc::Global;
-use tx_text::{NoMemory, PyText};
+use std::process::Abort;
+use tx_text::PyText;
 use tx_values::{Items, Pairs, Value};
 
 /// The cell at a place of a row; empty where it has fewer.
@@ -10,103 +10,88 @@ pub(crate) fn cell(row: &str, at: usize) -> &str {
     row.split(" ; ").nth(at).unwrap_or("")
 }
 
-/// A container whose bracket is open, and what it holds so far.
-#[derive(Drop)]
-struct Open {
-    bracket: char,
-    items: Items,
-}
-
 // The pairs of a list of keys and values in turn.
-fn pairs_of(alloc: Global, items: Items) -> Result<Pairs, NoMemory> {
+fn pairs_of(rt: &impl Abort, alloc: Global, items: Items) -> Pairs {
     let mut pairs = Pairs::new(alloc);
     let mut key = None;
     for item in items.into_vec() {
         match key.take() {
             None => key = Some(item),
-            Some(key) => pairs.push((key, item))?,
+            Some(key) => pairs.push((key, item)).expect(rt, "memory"),
         }
     }
-    Ok(pairs)
+    pairs
 }
 
-fn closed(alloc: Global, open: Open) -> Result<Value, NoMemory> {
-    match open.bracket {
-        '(' => Ok(Value::Tuple(open.items)),
-        '[' => Ok(Value::List(open.items)),
-        _ => Ok(Value::Dict(pairs_of(alloc, open.items)?)),
+// What a bracket closes.
+fn closed(rt: &impl Abort, alloc: Global, items: Items, bracket: &str) -> Value {
+    match bracket {
+        ")" => Value::Tuple(items),
+        "]" => Value::List(items),
+        _ => Value::Dict(pairs_of(rt, alloc, items)),
     }
+}
+
+fn begin(rt: &impl Abort, alloc: Global, open: &mut Vec<Items>) {
+    open.push(Items::new(alloc)).expect(rt, "memory");
+}
+
+// The items behind the last open bracket.
+fn last(alloc: Global, open: &mut Vec<Items>) -> Items {
+    open.pop().unwrap_or(Items::new(alloc))
 }
 
 // Puts a value into the innermost open container.
-fn put(open: &mut Vec<Open>, value: Value) -> Result<(), NoMemory> {
-    match open.last_mut() {
-        Some(container) => container.items.push(value),
-        None => Ok(()),
+fn put(rt: &impl Abort, open: &mut Vec<Items>, value: Value) {
+    if let Some(items) = open.last_mut() {
+        items.push(value).expect(rt, "memory");
     }
 }
 
-fn begin(alloc: Global, open: &mut Vec<Open>, bracket: char) -> Result<(), NoMemory> {
-    let items = Items::new(alloc);
-    open.push(Open { bracket, items })?;
-    Ok(())
-}
-
-fn end(alloc: Global, open: &mut Vec<Open>) -> Result<(), NoMemory> {
-    match open.pop() {
-        Some(last) => put(open, closed(alloc, last)?),
-        None => Ok(()),
-    }
-}
-
-fn quoted(alloc: Global, text: &str) -> Result<Value, NoMemory> {
-    Ok(Value::Text(PyText::from_str(alloc, text.trim_end_matches('\''))?))
+fn quoted(rt: &impl Abort, alloc: Global, text: &str) -> Value {
+    Value::Text(PyText::from_str(alloc, text.trim_end_matches('\'')).expect(rt, "memory"))
 }
 
 // A token that is no bracket: a name, a text in quotes, or else an integer.
-fn scalar(alloc: Global, token: &str) -> Result<Value, NoMemory> {
+fn scalar(rt: &impl Abort, alloc: Global, token: &str) -> Value {
     match token {
-        "None" => Ok(Value::Nil),
-        "True" => Ok(Value::Truth(true)),
-        "False" => Ok(Value::Truth(false)),
+        "None" => Value::Nil,
+        "True" => Value::Truth(true),
+        "False" => Value::Truth(false),
         _ => match token.strip_prefix('\'') {
-            Some(text) => quoted(alloc, text),
-            None => Ok(Value::Int(token.parse::<i128>().unwrap_or(0))),
+            Some(text) => quoted(rt, alloc, text),
+            None => Value::Int(token.parse::<i128>().unwrap_or(0)),
         },
     }
 }
 
-fn read_token(alloc: Global, open: &mut Vec<Open>, token: &str) -> Result<(), NoMemory> {
+fn read_token(rt: &impl Abort, alloc: Global, open: &mut Vec<Items>, token: &str) {
     match token {
-        "," | ":" => Ok(()),
-        "(" => begin(alloc, open, '('),
-        "[" => begin(alloc, open, '['),
-        "{" => begin(alloc, open, '{'),
-        ")" | "]" | "}" => end(alloc, open),
-        _ => put(open, scalar(alloc, token)?),
+        "," | ":" => {}
+        "(" | "[" | "{" => begin(rt, alloc, open),
+        ")" | "]" | "}" => {
+            let items = last(alloc, open);
+            put(rt, open, closed(rt, alloc, items, token));
+        }
+        _ => put(rt, open, scalar(rt, alloc, token)),
     }
-}
-
-fn read_tokens(alloc: Global, open: &mut Vec<Open>, text: &str) -> Result<(), NoMemory> {
-    for token in text.split(' ') {
-        read_token(alloc, open, token)?;
-    }
-    Ok(())
 }
 
 /// A value as Python writes it, with a blank between its tokens: `{ 'a' : [ True , 2 ] }`, `( 1 , )`. It is read as the one
 /// item of a list.
-pub(crate) fn value_of(alloc: Global, text: &str) -> Result<Value, NoMemory> {
+pub(crate) fn value_of(rt: &impl Abort, alloc: Global, text: &str) -> Value {
     let mut open = Vec::new(alloc);
-    begin(alloc, &mut open, '[')?;
-    read_tokens(alloc, &mut open, text)?;
-    match open.pop() {
-        Some(list) => Ok(list.items.into_vec().pop().unwrap_or(Value::Nil)),
-        None => Ok(Value::Nil),
+    begin(rt, alloc, &mut open);
+    for token in text.split(' ') {
+        read_token(rt, alloc, &mut open, token);
     }
+    last(alloc, &mut open)
+        .into_vec()
+        .pop()
+        .unwrap_or(Value::Nil)
 }
 
 /// The value at a place of a row.
-pub(crate) fn value_at(alloc: Global, row: &str, at: usize) -> Result<Value, NoMemory> {
-    value_of(alloc, cell(row, at))
+pub(crate) fn value_at(rt: &impl Abort, alloc: Global, row: &str, at: usize) -> Value {
+    value_of(rt, alloc, cell(row, at))
 }
