@@ -2,10 +2,10 @@
 // reads a file in the same way, those of Python.
 use crate::tests::ran::{Faults, Ran, SUMS, file, run_line, two_files};
 use std::alloc::Global;
-use std::test::Fail;
+use std::process::Abort;
 use tuplex_run::Outcome;
 use tx_place::Files;
-use tx_text::{Bytes, NoMemory};
+use tx_text::{Bytes, NoMemory, PyText};
 
 // A row: `WORDS;NAME:SCRIPT;NAME:INPUT;FIRST;LAST;CONSOLE;MOST => STATUS;NAME;OUTPUT;REPORT;SAID;COMPLAINED;`.
 //
@@ -206,21 +206,25 @@ fn push_byte(bytes: &mut Bytes, byte: u8) -> Result<(), NoMemory> {
     }
 }
 
-fn bytes_of(alloc: Global, text: &str) -> Result<Bytes, NoMemory> {
+fn bytes_of(rt: &impl Abort, alloc: Global, text: &str) -> Bytes {
     let mut bytes = Bytes::new(alloc);
     for byte in text.as_bytes() {
-        push_byte(&mut bytes, *byte)?;
+        push_byte(&mut bytes, *byte).expect(rt, "memory");
     }
-    Ok(bytes)
+    bytes
+}
+
+// The file of a cell.
+fn file_of(rt: &impl Abort, alloc: Global, cell: &str) -> (PyText, Bytes) {
+    let (name, text) = cell.split_once(':').unwrap_or(("", ""));
+    file(alloc, name, bytes_of(rt, alloc, text).as_slice()).expect(rt, "memory")
 }
 
 // The two files of a row.
-fn files_of(alloc: Global, row: &str) -> Result<Files, NoMemory> {
-    let (script, text) = cell(row, 1).split_once(':').unwrap_or(("", ""));
-    let script = file(alloc, script, bytes_of(alloc, text)?.as_slice())?;
-    let (input, text) = cell(row, 2).split_once(':').unwrap_or(("", ""));
-    let input = file(alloc, input, bytes_of(alloc, text)?.as_slice())?;
-    two_files(alloc, script, input)
+fn files_of(rt: &impl Abort, alloc: Global, row: &str) -> Files {
+    let script = file_of(rt, alloc, cell(row, 1));
+    let input = file_of(rt, alloc, cell(row, 2));
+    two_files(alloc, script, input).expect(rt, "memory")
 }
 
 // The file that the outcome names.
@@ -232,36 +236,39 @@ fn named(outcome: &Outcome) -> &str {
     }
 }
 
-fn push_part(told: &mut Bytes, part: &[u8]) -> Result<(), NoMemory> {
-    told.push_all(part)?;
-    told.push(b';')
+fn push_part(rt: &impl Abort, told: &mut Bytes, part: &[u8]) {
+    told.push_all(part).expect(rt, "memory");
+    told.push(b';').expect(rt, "memory");
 }
 
 // What a run left, as it stands behind an arrow.
-fn told(alloc: Global, ran: &Ran) -> Result<Bytes, NoMemory> {
-    let front = format!(in alloc; "{};{}", ran.status(), named(&ran.outcome))?;
+fn told(rt: &impl Abort, alloc: Global, ran: &Ran) -> Bytes {
+    let status = format!(in alloc; "{}", ran.status()).expect(rt, "memory");
     let mut told = Bytes::new(alloc);
-    push_part(&mut told, front.as_bytes())?;
-    push_part(&mut told, ran.output())?;
-    push_part(&mut told, ran.report())?;
-    push_part(&mut told, ran.console.said())?;
-    push_part(&mut told, ran.console.complained())?;
-    Ok(told)
+    push_part(rt, &mut told, status.as_bytes());
+    push_part(rt, &mut told, named(&ran.outcome).as_bytes());
+    push_part(rt, &mut told, ran.output());
+    push_part(rt, &mut told, ran.report());
+    push_part(rt, &mut told, ran.console.said());
+    push_part(rt, &mut told, ran.console.complained());
+    told
 }
 
 // The file of a cell is as it was.
-fn is_kept(alloc: Global, ran: &Ran, cell: &str) -> Result<bool, NoMemory> {
+fn is_kept(rt: &impl Abort, alloc: Global, ran: &Ran, cell: &str) -> bool {
     let (name, text) = cell.split_once(':').unwrap_or(("", ""));
-    Ok(ran.file(name) == bytes_of(alloc, text)?.as_slice())
+    ran.file(name) == bytes_of(rt, alloc, text).as_slice()
 }
 
-fn leaves(alloc: Global, row: &str, line: &str, faults: Faults) -> Result<bool, NoMemory> {
-    let ran = run_line(alloc, cell(row, 0), files_of(alloc, row)?, faults)?;
-    let kept = is_kept(alloc, &ran, cell(row, 1))? && is_kept(alloc, &ran, cell(row, 2))?;
-    Ok(kept && told(alloc, &ran)?.as_slice() == bytes_of(alloc, line)?.as_slice())
+fn leaves(rt: &impl Abort, alloc: Global, row: &str, line: &str, faults: Faults) -> bool {
+    let files = files_of(rt, alloc, row);
+    let ran = run_line(alloc, cell(row, 0), files, faults).expect(rt, "memory");
+    is_kept(rt, alloc, &ran, cell(row, 1))
+        && is_kept(rt, alloc, &ran, cell(row, 2))
+        && told(rt, alloc, &ran).as_slice() == bytes_of(rt, alloc, line).as_slice()
 }
 
-fn holds(alloc: Global, row: &str) -> Result<bool, NoMemory> {
+fn holds(rt: &impl Abort, alloc: Global, row: &str) -> bool {
     let (row, line) = row.split_once(" => ").unwrap_or(("", ""));
     let first = cell(row, 3).parse::<u64>().unwrap_or(0);
     let last = cell(row, 4).parse::<u64>().unwrap_or(0);
@@ -273,22 +280,21 @@ fn holds(alloc: Global, row: &str) -> Result<bool, NoMemory> {
             console,
             most,
         };
-        if !leaves(alloc, row, line, faults)? {
-            return Ok(false);
+        if !leaves(rt, alloc, row, line, faults) {
+            return false;
         }
     }
-    Ok(first <= last)
+    first <= last
 }
 
 #[test]
-fn commands_leave_what_they_should(rt: HostRuntime) -> Result<(), Fail> {
+fn commands_leave_what_they_should(rt: HostRuntime) {
     let mut rows = 0usize;
     for row in COMMANDS.lines() {
         if !row.starts_with('#') {
-            assert!(rt; holds(rt.alloc(), row)?, "{row}");
+            assert!(rt; holds(&rt, rt.alloc(), row), "{row}");
             rows = rows.wrapping_add(1);
         }
     }
     assert!(rt; rows == 147);
-    Ok(())
 }

@@ -2,19 +2,19 @@
 ghost use Rattle.std.specs.Prelude.{◌<◌};
 
 use std::alloc::Global;
-use std::test::Fail;
+use std::process::Abort;
 use tx_place::{CallError, Console, Files, MemoryConsole, MemoryPlace, Place, ReadError, read_all};
-use tx_text::{Bytes, NoMemory, Numbers, PyText};
+use tx_text::{Bytes, Numbers, PyText};
 
 // The numbers of a text, with blanks between them.
-fn numbers(alloc: Global, text: &str) -> Result<Numbers, NoMemory> {
+fn numbers(rt: &impl Abort, alloc: Global, text: &str) -> Numbers {
     let mut all = Numbers::new(alloc);
     for word in text.split(' ') {
         if let Ok(number) = word.parse::<u64>() {
-            all.push(number)?;
+            all.push(number).expect(rt, "memory");
         }
     }
-    Ok(all)
+    all
 }
 
 fn number(word: &str) -> u64 {
@@ -30,34 +30,39 @@ fn word(call: &str, at: usize) -> &str {
     call.split(' ').nth(at).unwrap_or("")
 }
 
-fn done(told: Result<(), CallError>, answers: &mut Bytes) -> Result<(), NoMemory> {
+fn put(rt: &impl Abort, answers: &mut Bytes, bytes: &[u8]) {
+    answers.push_all(bytes).expect(rt, "memory");
+}
+
+fn done(rt: &impl Abort, told: Result<(), CallError>, answers: &mut Bytes) {
     match told {
-        Ok(()) => answers.push_all(b"ok"),
-        Err(CallError::Failed) => answers.push_all(b"failed"),
-        Err(CallError::NoMemory) => Err(NoMemory),
+        Ok(()) => put(rt, answers, b"ok"),
+        Err(CallError::Failed) => put(rt, answers, b"failed"),
+        Err(CallError::NoMemory) => put(rt, answers, b"no memory"),
     }
 }
 
-fn read<P: Place>(place: &mut P, name: &str, at: u64, answers: &mut Bytes) -> Result<(), NoMemory> {
+fn read<P: Place>(rt: &impl Abort, place: &mut P, name: &str, at: u64, answers: &mut Bytes) {
     let mut into = [0u8; 4];
     match place.read_at(name, at, &mut into) {
-        Ok(taken) => answers.push_all(&into[..taken]),
-        Err(e) => done(Err(e), answers),
+        Ok(taken) => put(rt, answers, &into[..taken]),
+        Err(e) => done(rt, Err(e), answers),
     }
 }
 
 fn whole<P: Place>(
+    rt: &impl Abort,
     alloc: Global,
     place: &mut P,
     name: &str,
     limit: u64,
     answers: &mut Bytes,
-) -> Result<(), NoMemory> {
+) {
     match read_all(alloc, place, name, limit) {
-        Ok(bytes) => answers.push_all(bytes.as_slice()),
-        Err(ReadError::TooLarge) => answers.push_all(b"too large"),
-        Err(ReadError::Fault) => answers.push_all(b"failed"),
-        Err(ReadError::NoMemory) => Err(NoMemory),
+        Ok(bytes) => put(rt, answers, bytes.as_slice()),
+        Err(ReadError::TooLarge) => put(rt, answers, b"too large"),
+        Err(ReadError::Fault) => put(rt, answers, b"failed"),
+        Err(ReadError::NoMemory) => put(rt, answers, b"no memory"),
     }
 }
 
@@ -69,46 +74,54 @@ fn write<P: Place>(place: &mut P, name: &str, first: &str, second: &str) -> Resu
 }
 
 fn answer<P: Place>(
+    rt: &impl Abort,
     alloc: Global,
     place: &mut P,
     call: &str,
     answers: &mut Bytes,
-) -> Result<(), NoMemory> {
+) {
     let kind = word(call, 0);
     let name = word(call, 1);
     let at = number(word(call, 2));
     if kind == "read" {
-        read(place, name, at, answers)
+        read(rt, place, name, at, answers);
     } else if kind == "whole" {
-        whole(alloc, place, name, at, answers)
+        whole(rt, alloc, place, name, at, answers);
     } else if kind == "create" {
-        done(place.create(name), answers)
+        done(rt, place.create(name), answers);
     } else {
-        done(write(place, name, word(call, 2), word(call, 3)), answers)
+        done(
+            rt,
+            write(place, name, word(call, 2), word(call, 3)),
+            answers,
+        );
     }
 }
 
 /// The answers of calls in turn: `read NAME AT` of four bytes, `whole NAME LIMIT`, `create NAME`, and `write NAME A B`,
 /// which creates a file and appends to it twice.
 pub(crate) fn answers<P: Place>(
+    rt: &impl Abort,
     alloc: Global,
     place: &mut P,
     calls: &str,
-    answers: &mut Bytes,
-) -> Result<(), NoMemory> {
+) -> Bytes {
+    let mut answers = Bytes::new(alloc);
     for call in calls.split(", ") {
-        answer(alloc, place, call, answers)?;
-        answers.push_all(b", ")?;
+        answer(rt, alloc, place, call, &mut answers);
+        put(rt, &mut answers, b", ");
     }
-    Ok(())
+    answers
 }
 
 /// The answers of `say BYTES` and `complain BYTES` in turn.
 pub(crate) fn told<C: Console>(
+    rt: &impl Abort,
+    alloc: Global,
     console: &mut C,
     calls: &str,
-    answers: &mut Bytes,
-) -> Result<(), NoMemory> {
+) -> Bytes {
+    let mut answers = Bytes::new(alloc);
     for call in calls.split(", ") {
         let (kind, text) = call.split_once(' ').unwrap_or(("", ""));
         let answer = if kind == "say" {
@@ -116,30 +129,26 @@ pub(crate) fn told<C: Console>(
         } else {
             console.complain(text.as_bytes())
         };
-        done(answer, answers)?;
-        answers.push_all(b", ")?;
+        done(rt, answer, &mut answers);
+        put(rt, &mut answers, b", ");
     }
-    Ok(())
+    answers
 }
 
-fn small(alloc: Global) -> Result<Bytes, NoMemory> {
+fn small(rt: &impl Abort, alloc: Global) -> Bytes {
     let mut bytes = Bytes::new(alloc);
-    bytes.push_all(b"123456")?;
-    Ok(bytes)
+    put(rt, &mut bytes, b"123456");
+    bytes
 }
 
 // A place with one file that gives at most so many bytes at once.
-fn place(
-    alloc: Global,
-    bytes: Bytes,
-    failing: Numbers,
-    most: usize,
-) -> Result<MemoryPlace, NoMemory>
+fn place(rt: &impl Abort, alloc: Global, bytes: Bytes, failing: Numbers, most: usize) -> MemoryPlace
     requires { 0 < most }
 {
+    let name = PyText::from_str(alloc, "a.csv").expect(rt, "memory");
     let mut files = Files::new(alloc);
-    files.push((PyText::from_str(alloc, "a.csv")?, bytes))?;
-    MemoryPlace::new(alloc, files, failing, most)
+    files.push((name, bytes)).expect(rt, "memory");
+    MemoryPlace::new(alloc, files, failing, most).expect(rt, "memory")
 }
 
 // The numbers of the calls that are to fail, the calls, and their answers. A call that was made to fail leaves what the
@@ -158,45 +167,40 @@ const PLACES: &str = "\
 ";
 
 // Whether the calls of a row have its answers.
-fn answers_are_those(alloc: Global, row: &str) -> Result<bool, NoMemory> {
-    let failing = numbers(alloc, cell(row, 0))?;
-    let mut place = place(alloc, small(alloc)?, failing, 3)?;
-    let mut said = Bytes::new(alloc);
-    answers(alloc, &mut place, cell(row, 1), &mut said)?;
-    Ok(said.as_slice() == cell(row, 2).as_bytes())
+fn answers_are_those(rt: &impl Abort, alloc: Global, row: &str) -> bool {
+    let failing = numbers(rt, alloc, cell(row, 0));
+    let mut place = place(rt, alloc, small(rt, alloc), failing, 3);
+    answers(rt, alloc, &mut place, cell(row, 1)).as_slice() == cell(row, 2).as_bytes()
 }
 
 #[test]
-fn places_answer_their_calls(rt: HostRuntime) -> Result<(), Fail> {
+fn places_answer_their_calls(rt: HostRuntime) {
     let mut rows = 0usize;
     for row in PLACES.lines() {
-        assert!(rt; answers_are_those(rt.alloc(), row)?, "{row}");
+        assert!(rt; answers_are_those(&rt, rt.alloc(), row), "{row}");
         rows = rows.wrapping_add(1);
     }
     assert!(rt; rows == 9);
-    Ok(())
 }
 
 // Whether a console whose second and third call fail took half of their bytes.
-fn takes_half(alloc: Global) -> Result<bool, NoMemory> {
-    let mut console = MemoryConsole::new(alloc, numbers(alloc, "2 3")?)?;
-    let mut answers = Bytes::new(alloc);
-    told(
+fn takes_half(rt: &impl Abort, alloc: Global) -> bool {
+    let failing = numbers(rt, alloc, "2 3");
+    let mut console = MemoryConsole::new(alloc, failing).expect(rt, "memory");
+    let answers = told(
+        rt,
+        alloc,
         &mut console,
         "say abc, say defgh, complain xyz, complain !",
-        &mut answers,
-    )?;
-    Ok(
-        answers.as_slice() == b"ok, failed, failed, ok, ".as_slice()
-            && console.said() == b"abcde".as_slice()
-            && console.complained() == b"x!".as_slice(),
-    )
+    );
+    answers.as_slice() == b"ok, failed, failed, ok, ".as_slice()
+        && console.said() == b"abcde".as_slice()
+        && console.complained() == b"x!".as_slice()
 }
 
 #[test]
-fn a_console_that_fails_took_half(rt: HostRuntime) -> Result<(), Fail> {
-    assert!(rt; takes_half(rt.alloc())?);
-    Ok(())
+fn a_console_that_fails_took_half(rt: HostRuntime) {
+    assert!(rt; takes_half(&rt, rt.alloc()));
 }
 
 fn has(place: &MemoryPlace, name: &str, bytes: &[u8]) -> bool {
@@ -207,21 +211,20 @@ fn has(place: &MemoryPlace, name: &str, bytes: &[u8]) -> bool {
 }
 
 #[test]
-fn bytes_of_a_name(rt: HostRuntime) -> Result<(), Fail> {
+fn bytes_of_a_name(rt: HostRuntime) {
     let alloc = rt.alloc();
-    let place = place(alloc, small(alloc)?, Numbers::new(alloc), 1)?;
+    let place = place(&rt, alloc, small(&rt, alloc), Numbers::new(alloc), 1);
     assert!(rt; has(&place, "a.csv", b"123456"));
     assert!(rt; !has(&place, "none.csv", b""));
-    Ok(())
 }
 
 // Some bytes of which no piece is like its neighbours.
-fn many(alloc: Global, count: u32) -> Result<Bytes, NoMemory> {
+fn many(rt: &impl Abort, alloc: Global, count: u32) -> Bytes {
     let mut bytes = Bytes::new(alloc);
     for i in 0..count {
-        bytes.push((i % 251) as u8)?;
+        bytes.push((i % 251) as u8).expect(rt, "memory");
     }
-    Ok(bytes)
+    bytes
 }
 
 fn are_many(bytes: &[u8], count: usize) -> bool {
@@ -239,18 +242,18 @@ fn are_many(bytes: &[u8], count: usize) -> bool {
     bytes.len() == count
 }
 
-fn reads_all(alloc: Global, most: usize) -> Result<bool, NoMemory>
+fn reads_all(rt: &impl Abort, alloc: Global, most: usize) -> bool
     requires { 0 < most }
 {
-    let mut place = place(alloc, many(alloc, 150_000)?, Numbers::new(alloc), most)?;
+    let bytes = many(rt, alloc, 150_000);
+    let mut place = place(rt, alloc, bytes, Numbers::new(alloc), most);
     match read_all(alloc, &mut place, "a.csv", 150_000) {
-        Ok(bytes) => Ok(are_many(bytes.as_slice(), 150_000)),
-        Err(_) => Ok(false),
+        Ok(bytes) => are_many(bytes.as_slice(), 150_000),
+        Err(_) => false,
     }
 }
 
 #[test]
-fn a_large_file_is_read_in_pieces(rt: HostRuntime) -> Result<(), Fail> {
-    assert!(rt; reads_all(rt.alloc(), 997)?);
-    Ok(())
+fn a_large_file_is_read_in_pieces(rt: HostRuntime) {
+    assert!(rt; reads_all(&rt, rt.alloc(), 997));
 }

@@ -4,9 +4,9 @@ use std::alloc::Global;
 use std::fs::Files;
 use std::io;
 use std::io::{ErrorKind, Write};
-use std::test::Fail;
+use std::process::Abort;
 use tx_place::{Console, RealConsole, RealPlace};
-use tx_text::{Bytes, NoMemory};
+use tx_text::Bytes;
 
 const CALLS: &str = "\
 write real_place.tmp abc de, read real_place.tmp 0, read real_place.tmp 4, read real_place.tmp 5, \
@@ -17,51 +17,46 @@ const ANSWERS: &str = "\
 ok, abcd, e, , , abcde, too large, failed, failed, ok, , ok, xy, ";
 
 // Whether the calls have their answers.
-fn files_are_kept<R: Files + Drop>(alloc: Global, files: R) -> Result<bool, NoMemory> {
+fn files_are_kept<R: Files + Drop>(rt: &impl Abort, alloc: Global, files: R) -> bool {
     let mut place = RealPlace::new(alloc, files);
-    let mut said = Bytes::new(alloc);
-    answers(alloc, &mut place, CALLS, &mut said)?;
-    Ok(said.as_slice() == ANSWERS.as_bytes())
+    answers(rt, alloc, &mut place, CALLS).as_slice() == ANSWERS.as_bytes()
 }
 
 #[test]
-fn real_files_are_kept(rt: HostRuntime) -> Result<(), Fail> {
-    assert!(rt; files_are_kept(rt.alloc(), &rt)?);
-    Ok(())
+fn real_files_are_kept(rt: HostRuntime) {
+    assert!(rt; files_are_kept(&rt, rt.alloc(), &rt));
 }
 
 // Says and complains over two streams.
 fn tell<O: Write + Drop, E: Write + Drop>(
+    rt: &impl Abort,
+    alloc: Global,
     out: O,
     err: E,
     calls: &str,
-    answers: &mut Bytes,
-) -> Result<(), NoMemory> {
+) -> Bytes {
     let mut console = RealConsole::new(out, err);
-    told(&mut console, calls, answers)
+    told(rt, alloc, &mut console, calls)
 }
 
 // Whether each of two lists gets the bytes of its own calls, and no others.
-fn streams_are_kept_apart(alloc: Global) -> Result<bool, NoMemory> {
+fn streams_are_kept_apart(rt: &impl Abort, alloc: Global) -> bool {
     let (mut out, mut err) = (Vec::new(alloc), Vec::new(alloc));
-    let mut answers = Bytes::new(alloc);
-    tell(
+    let answers = tell(
+        rt,
+        alloc,
         &mut out,
         &mut err,
         "say abc, complain xy, say , say de, complain z",
-        &mut answers,
-    )?;
-    Ok(
-        answers.as_slice() == b"ok, ok, ok, ok, ok, ".as_slice()
-            && out.as_slice() == b"abcde".as_slice()
-            && err.as_slice() == b"xyz".as_slice(),
-    )
+    );
+    answers.as_slice() == b"ok, ok, ok, ok, ok, ".as_slice()
+        && out.as_slice() == b"abcde".as_slice()
+        && err.as_slice() == b"xyz".as_slice()
 }
 
 #[test]
-fn each_stream_gets_its_bytes(rt: HostRuntime) -> Result<(), Fail> {
-    assert!(rt; streams_are_kept_apart(rt.alloc())?);
-    Ok(())
+fn each_stream_gets_its_bytes(rt: HostRuntime) {
+    assert!(rt; streams_are_kept_apart(&rt, rt.alloc()));
 }
 
 /// A stream that takes two bytes at a time, and none where it has no room left.
@@ -86,28 +81,26 @@ impl Write for Narrow {
 }
 
 // Whether a call fails exactly where its own stream has no room left.
-fn faults_are_answered(alloc: Global) -> Result<bool, NoMemory> {
-    let mut answers = Bytes::new(alloc);
-    tell(
+fn faults_are_answered(rt: &impl Abort, alloc: Global) -> bool {
+    let answers = tell(
+        rt,
+        alloc,
         Narrow { room: 5 },
         Narrow { room: 0 },
         "say abcde, complain x, say f, complain , complain y",
-        &mut answers,
-    )?;
-    Ok(answers.as_slice() == b"ok, failed, failed, ok, failed, ".as_slice())
+    );
+    answers.as_slice() == b"ok, failed, failed, ok, failed, ".as_slice()
 }
 
 #[test]
-fn faults_of_each_stream_are_answered(rt: HostRuntime) -> Result<(), Fail> {
-    assert!(rt; faults_are_answered(rt.alloc())?);
-    Ok(())
+fn faults_of_each_stream_are_answered(rt: HostRuntime) {
+    assert!(rt; faults_are_answered(&rt, rt.alloc()));
 }
 
 #[test]
-fn the_standard_streams_are_written(rt: HostRuntime) -> Result<(), Fail> {
+fn the_standard_streams_are_written(rt: HostRuntime) {
     let mut console = RealConsole::new(rt.stdout(), rt.stderr());
     let said = console.say(b"said\n");
     let complained = console.complain(b"complained\n");
     assert!(rt; said.is_ok() && complained.is_ok());
-    Ok(())
 }
